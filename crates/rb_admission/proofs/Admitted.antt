@@ -1,4 +1,4 @@
--- Where each worker looks before it asks, each record has room.
+-- If each worker looks before it requests records, there is room for each record.
 use Rattle.std.proofs.Common.{◌≡◌, ◌⊎◌, inl, inr, ⊎_elim, ℕ, zero, suc, ◌+◌, ◌-◌, ◌*◌, ◌<◌, ◌≤◌, ◌^◌, refl, sym, ◌∙◌, ap, subst, cond, List, [], ◌∷◌, ◌++◌, length, take, drop, arith, append_assoc, append-nil}
 use Rattle.std.specs.Prelude.{◌==◌}
 use Rattle.std.specs.List.{count_by, flat_map, sum_by}
@@ -46,9 +46,9 @@ one-of-total f u (suc k) lt =
     (λ above. let same : u ≡ k = omega arith in let here : f u ≡ f k = ap f same in omega arith)
     (cases_lt u k)
 
--- ---- what all workers ask for
+-- ---- what all workers request
 
--- how many bytes an entry asks for, whosever it is
+-- the number of bytes that an entry requests, for any worker
 abbrev all_asked : Entry → ℕ
 all_asked (Res w k n p) = span n
 all_asked (Full w n) = span n
@@ -64,7 +64,7 @@ one-among w m workers lt =
     let own : cond (w == w) m 0 ≡ m = ap (λ b. cond b m 0) (eq-eqb w w refl) in
     omega arith
 
--- what the entries of a part of a history come to is what they come to for its workers, where each entry does
+-- the sum over the entries of a part of a history is the sum over its workers, if each entry's is
 pub by-workers : (workers : ℕ) (h : List Entry) (all : Entry → ℕ) (own : ℕ → Entry → ℕ) → ((before : List Entry) (e : Entry) (after : List Entry) → h ≡ before ++ e ∷ after → all e ≤ total (λ u. own u e) workers)
     → (before part after : List Entry) → h ≡ before ++ (part ++ after) → sum_by all part ≤ total (λ u. sum_by (own u) part) workers
 by-workers workers h all own each before [] after is = omega arith
@@ -86,27 +86,27 @@ module _ (r : Setup) (h : List Entry) (legal : IsLegal r h) where
   entry-asked before (Dis p) after is = omega arith
   entry-asked before (Take p) after is = omega arith
 
-  -- what a part of the history asks for is what its workers ask for there
+  -- what a part of the history requests is what its workers request there
   part-asked : (before part after : List Entry) → h ≡ before ++ (part ++ after) → sum_by all_asked part ≤ total (λ u. asked_bytes u part) r.workers
   part-asked = by-workers r.workers h all_asked asked_span entry-asked
 
 -- ---- parts of a history
 
--- what a longer front of a history adds up to is no less
+-- the sum over a longer prefix of a history is not smaller
 front-le : (f : Entry → ℕ) (h : List Entry) (i j : ℕ) → i ≤ j → sum_by f (take i h) ≤ sum_by f (take j h)
 front-le f h i j le =
     let part : sum_by f (take i (take j h)) ≤ sum_by f (take j h) = sum_by-take-le f (take j h) i in
     let same : sum_by f (take i (take j h)) ≡ sum_by f (take i h) = ap (sum_by f) (take-take i j h le) in
     omega arith
 
--- a front, and what stands between it and a longer one
+-- a prefix, and the entries between it and a longer one
 between : (f : Entry → ℕ) (h : List Entry) (i j : ℕ) → i ≤ j → sum_by f (take i h) + sum_by f (drop i (take j h)) ≡ sum_by f (take j h)
 between f h i j le =
     let same : sum_by f (take i (take j h)) ≡ sum_by f (take i h) = ap (sum_by f) (take-take i j h le) in
     let both : sum_by f (take i (take j h)) + sum_by f (drop i (take j h)) ≡ sum_by f (take j h) = sum_by-take-drop f (take j h) i in
     omega arith
 
--- a later history has no smaller spans, and so its consumer is no further back
+-- a later history has no smaller spans, so its consumer is not further back
 span-grows : (h t : List Entry) (e : Entry) → taken_span h e ≤ taken_span (h ++ t) e
 span-grows h t (Res w k n p) = omega arith
 span-grows h t (Full w n) = omega arith
@@ -126,19 +126,19 @@ consumer-grows start h t =
 -- ---- looks
 
 module _ (r : Setup) (turn : ℕ) (h : List Entry) where
-  -- a worker asked for no more than a turn since a look, up to and with the entry at a place
+  -- a worker requested at most a turn since a look, up to and including the entry at an index
   abbrev pub IsWithin : ℕ → ℕ → ℕ → Type 0
   IsWithin i look w = asked_bytes w (take (i + 1) h) ≤ asked_bytes w (take look h) + turn
 
-  -- a look at or before the place allowed a turn
+  -- a look at or before the index allowed a turn
   abbrev pub IsLook : ℕ → ℕ → Type 0
   IsLook i look = (look ≤ i) × MayBegin r turn (take look h)
 
-  -- the worker did nothing up to the place, or looked before and kept within its turn
+  -- the worker did nothing up to the index, or looked before and stayed within its turn
   abbrev pub HasLooked : ℕ → ℕ → Type 0
   HasLooked i w = (asked_bytes w (take (i + 1) h) ≡ 0) ⊎ ((look : ℕ) × IsLook i look × IsWithin i look w)
 
-  -- the look of the turn in which the place lies
+  -- the look of the turn that contains the index
   in-turn : (w : ℕ) (seen : List Entry) (turns : List (List Entry)) → h ≡ seen ++ flat_map (λ entries. entries) turns → HasTurns r turn w seen turns
       → (i : ℕ) → length seen ≤ i → i < length h → (look : ℕ) × IsLook i look × IsWithin i look w
   in-turn w seen [] is takes i le lt =
@@ -172,7 +172,7 @@ module _ (r : Setup) (turn : ℕ) (h : List Entry) where
       (λ later. inr (in-turn w looks.first looks.turns looks.whole looks.in_turns i later lt))
       (cases_lt i (length looks.first))
 
-  -- of the looks of some workers the last serves all of them
+  -- the last of some workers' looks serves all of these workers
   Common : ℕ → ℕ → Type 0
   Common i k = (look : ℕ) × IsLook i look × ((u : ℕ) → u < k → IsWithin i look u)
 
@@ -199,7 +199,7 @@ module _ (r : Setup) (turn : ℕ) (h : List Entry) where
       (cases_lt own.0 before.0))
       (each k (omega arith))
 
-  -- what a record asks for, and what was granted since a common look, is within a turn of each worker
+  -- what a record requests, and what was granted since a common look, is within a turn of each worker
   granted-asked : (e : Entry) → granted_span e ≤ all_asked e
   granted-asked (Res w k n p) = omega arith
   granted-asked (Full w n) = omega arith
@@ -256,7 +256,7 @@ module _ (r : Setup) (turn : ℕ) (h : List Entry) where
         next.1 (record { space = omega arith; limit = omega arith }))
         (has-looked w (looks w next.0) i (omega arith))
 
--- where no entry of a history refuses a record there are no refusals
+-- if no entry of a history refuses a record, there are no refusals
 pub none-refused : (h : List Entry) → ((before after : List Entry) (w n : ℕ) → h ≡ before ++ Full w n ∷ after → ⊥) → (before rest : List Entry) → h ≡ before ++ rest → count_by is_refusal_entry rest ≡ 0
 none-refused h none before [] is = refl
 none-refused h none before (e ∷ rest) is =

@@ -1,4 +1,4 @@
--- Where the consumer is late by few jobs, each record has room.
+-- If the consumer is late by few jobs, there is room for each record.
 use Rattle.std.proofs.Common.{◌≡◌, ⊎_elim, ℕ, zero, suc, ◌+◌, ◌-◌, ◌*◌, ◌<◌, ◌≤◌, ◌^◌, refl, sym, ◌∙◌, ap, subst, Bool, true, false, cond, List, [], ◌∷◌, ◌++◌, length, take, drop, Some, None, arith, append_assoc}
 use Rattle.std.proofs.Math.Nat.{mul-le-mul_right}
 use Rattle.std.specs.Prelude.{◌==◌, ◌&&◌, ◌||◌, not, nat_le}
@@ -22,9 +22,9 @@ use Rattle.rb_admission.specs.Admission.{asked_span, asked_bytes}
 use Rattle.rb_admission.specs.Lateness.{JobsCut, ended_by, is_left, late_jobs, IsLateByAtMost, NoneIsRefusedOnTime}
 use Rattle.rb_admission.proofs.Admitted.{total, one-among, by-workers, none-refused}
 
--- ---- what is left of a worker's records
+-- ---- the untaken bytes of a worker's records
 
--- how many bytes of a worker's record an entry grants that are not taken now
+-- the number of bytes of a worker's record that an entry grants and that are not taken by now
 abbrev left_span : List Entry → ℕ → Entry → ℕ
 left_span now w (Res v k n p) = cond (v == w) (cond (is_taken_at now p) 0 (span n)) 0
 left_span now w e = 0
@@ -33,7 +33,7 @@ if_less : (b : Bool) (n : ℕ) → cond b 0 n ≤ n
 if_less true n = omega arith
 if_less false n = omega arith
 
--- what is left was asked for
+-- what is left was requested
 left-asked : (now : List Entry) (w : ℕ) (e : Entry) → left_span now w e ≤ asked_span w e
 left-asked now w (Res v k n p) = elim (v == w) as (λ b. cond b (cond (is_taken_at now p) 0 (span n)) 0 ≤ cond b (span n) 0) [ true ↦ if_less (is_taken_at now p) (span n) | false ↦ omega arith ]
 left-asked now w (Full v n) = omega arith
@@ -41,7 +41,7 @@ left-asked now w (Sub p) = omega arith
 left-asked now w (Dis p) = omega arith
 left-asked now w (Take p) = omega arith
 
--- where no record of the worker's is left there are no bytes
+-- if no record of the worker is left, there are no bytes
 none-here : (now : List Entry) (w : ℕ) (e : Entry) → is_left w now e ≡ false → left_span now w e ≡ 0
 none-here now w (Res v k n p) is = by_tests (v == w) (is_taken_at now p) is
   where
@@ -82,7 +82,7 @@ module _ (most w : ℕ) (now : List Entry) where
   abbrev late : List (List Entry) → ℕ
   late jobs = count_by (λ entries. list_any (is_left w now) entries) jobs
 
-  -- a job that has ended leaves no more than it asked for, and nothing where it is not late
+  -- a job that has ended leaves at most what it requested, and nothing if it is not late
   one-job : (job : List Entry) → asked_bytes w job ≤ most → sum_by (left_span now w) job ≤ cond (list_any (is_left w now) job) 1 0 * most
   one-job job asks = by_test (list_any (is_left w now) job) refl
     where
@@ -90,7 +90,7 @@ module _ (most w : ℕ) (now : List Entry) where
       by_test true is = let left : sum_by (left_span now w) job ≤ asked_bytes w job = sum_by-le-sum_by (left_span now w) (asked_span w) job (left-asked now w) in omega arith
       by_test false is = let none : sum_by (left_span now w) job ≡ 0 = none-left now w job is in omega arith
 
-  -- what is left of the entries before one, and what that one asks for, are within the late jobs and one more
+  -- what is left of the entries before one, and what that one requests, is within the late jobs and one more
   jobs-left : (jobs : List (List Entry)) (x : List Entry) (e : Entry) (after : List Entry) → x ++ e ∷ after ≡ flat_map (λ entries. entries) jobs → All (λ entries. asked_bytes w entries ≤ most) jobs
       → sum_by (left_span now w) x + asked_span w e ≤ (late (ended_by (length x) jobs) + 1) * most
   jobs-left [] x e after is each =
@@ -132,7 +132,7 @@ module _ (most w : ℕ) (now : List Entry) where
           let most_once : (0 + 1) * most ≡ most = omega arith in
           omega (arith, own)
 
-  -- no entry asks for more than its job
+  -- no entry requests more than its job
   entry-asks : (jobs : List (List Entry)) (x : List Entry) (e : Entry) (after : List Entry) → x ++ e ∷ after ≡ flat_map (λ entries. entries) jobs → All (λ entries. asked_bytes w entries ≤ most) jobs → asked_span w e ≤ most
   entry-asks [] x e after is each =
       let long : length (x ++ e ∷ after) ≡ length x + length (e ∷ after) = length-append x (e ∷ after) in
@@ -176,7 +176,7 @@ total-numbers : (f : ℕ → ℕ) (k : ℕ) → sum_by f (numbers_below k) ≡ t
 total-numbers f zero = refl
 total-numbers f (suc k) = let more : sum_by f (numbers_below k ++ k ∷ []) ≡ sum_by f (numbers_below k) + f k = sum_by_push f (numbers_below k) k in let rest : sum_by f (numbers_below k) ≡ total f k = total-numbers f k in omega arith
 
--- how many bytes of a record an entry grants that are not taken now
+-- the number of bytes of a record that an entry grants and that are not taken by now
 abbrev all_left : List Entry → Entry → ℕ
 all_left now (Res v k n p) = cond (is_taken_at now p) 0 (span n)
 all_left now e = 0

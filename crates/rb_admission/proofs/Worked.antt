@@ -1,4 +1,5 @@
--- Histories that were worked out by hand: where workers look before they ask and where one does not, and where a consumer is on time and where it is late.
+-- Examples of histories: workers that look before they request and one that does not, and consumers that are on time
+-- and late.
 use Rattle.std.proofs.Common.{◌≡◌, ⊎_elim, ℕ, zero, suc, ◌+◌, ◌<◌, ◌≤◌, ap, refl, ◌∙◌, subst, List, [], ◌∷◌, length, take, arith, lit≤}
 use Rattle.std.specs.List.{sum_by}
 use Rattle.std.proofs.lemmas.List.{length-append, take_at}
@@ -15,15 +16,17 @@ use Rattle.rb_admission.proofs.Admitted.{has-looked}
 abbrev ring : Setup
 ring = record { size = 4096; start = 0; workers = 2 }
 
--- Worker 0 is granted two records of 8 bytes, 16 with their headers, and worker 1 one of 1,000 bytes, 1,008 with its header. Nothing is taken.
+-- Worker 0 is granted two records of 8 bytes, 16 with their headers, and worker 1 one of 1,000 bytes, 1,008 with its
+-- header. Nothing is taken.
 abbrev both : List Entry
 both = Res 0 0 8 0 ∷ Res 1 0 1000 16 ∷ Sub 0 ∷ Res 0 1 8 1024 ∷ []
 
--- with turns of 1,008 bytes worker 0 has one, which begins before the first entry
+-- with turns of 1,008 bytes, worker 0 has one turn, which begins before the first entry
 first_looks : LooksBeforeItAsks ring 1008 0 both
 first_looks = record { first = []; turns = both ∷ []; whole = refl; idle = refl; in_turns = (lit≤ tt, lit≤ tt, tt) }
 
--- and worker 1 one, which begins behind the first entry: it finds 16 bytes untaken, and twice 1,008 are free beside them
+-- and worker 1 has one, which begins after the first entry: it finds 16 bytes untaken, and twice 1,008 are free beside
+-- them
 second_looks : LooksBeforeItAsks ring 1008 1 both
 second_looks =
     record { first = Res 0 0 8 0 ∷ []; turns = (Res 1 0 1000 16 ∷ Sub 0 ∷ Res 0 1 8 1024 ∷ []) ∷ []; whole = refl; idle = refl; in_turns = (lit≤ tt, lit≤ tt, tt) }
@@ -33,11 +36,13 @@ looks_twice : LooksBeforeItAsks ring 1008 0 both
 looks_twice =
     record { first = []; turns = (Res 0 0 8 0 ∷ Res 1 0 1000 16 ∷ Sub 0 ∷ []) ∷ (Res 0 1 8 1024 ∷ []) ∷ []; whole = refl; idle = refl; in_turns = (lit≤ tt, lit≤ tt, (lit≤ tt, lit≤ tt, tt)) }
 
--- a look that finds 2,080 bytes untaken allows no turn of 1,008 bytes: 2,080 and twice 1,008 are 4,096, and one byte stays free
+-- a look that finds 2,080 bytes untaken allows no turn of 1,008 bytes: 2,080 and twice 1,008 are 4,096, and one byte
+-- stays free
 no_turn : MayBegin ring 1008 (Res 0 0 2072 0 ∷ []) → ⊥
 no_turn may = absurd (omega arith)
 
--- The premise is not the conclusion. With turns of 8 bytes worker 0 asks for more than a turn by its first entry, though nothing is refused.
+-- The premise is not the conclusion. With turns of 8 bytes, worker 0 requests more than a turn by its first entry,
+-- although nothing is refused.
 asks_for_more : LooksBeforeItAsks ring 8 0 (Res 0 0 8 0 ∷ []) → ⊥
 asks_for_more looks =
     ⊎_elim
@@ -55,7 +60,8 @@ asks_for_more looks =
 abbrev one_worker : Setup
 one_worker = record { size = 4096; start = 0; workers = 1 }
 
--- A worker ran two jobs, of which each reserved and submitted a record of 8 bytes, 16 with its header. The first one's was taken before the second job began.
+-- A worker ran two jobs, each of which reserved and submitted a record of 8 bytes, 16 with its header. The first job's
+-- record was taken before the second job began.
 abbrev first_job : List Entry
 first_job = Res 0 0 8 0 ∷ Sub 0 ∷ Take 0 ∷ []
 
@@ -68,7 +74,7 @@ on_time = Res 0 0 8 0 ∷ Sub 0 ∷ Take 0 ∷ Res 0 1 8 16 ∷ Sub 16 ∷ []
 abbrev jobs_on_time : ℕ → List (List Entry)
 jobs_on_time w = first_job ∷ second_job ∷ []
 
--- the jobs cut the history, and each asks for 16 bytes
+-- the jobs cut the history, and each requests 16 bytes
 cut_on_time : JobsCut 16 0 on_time (jobs_on_time 0)
 cut_on_time = record { whole = refl; each = All-cons (λ entries. asked_bytes 0 entries ≤ 16) first_job (second_job ∷ []) (lit≤ tt) (All-cons (λ entries. asked_bytes 0 entries ≤ 16) second_job [] (lit≤ tt) (All-nil (λ entries. asked_bytes 0 entries ≤ 16))) }
 
@@ -88,8 +94,8 @@ never_late now e after is =
     let front : take (length now) on_time ≡ now = ap (take (length now)) is ∙ take_at now (e ∷ after) (length now) refl in
     subst (λ x. sum_by (λ w. late_jobs w x (jobs_on_time w)) (numbers_below 1) ≤ 0) front (late_at (length now) (omega arith))
 
--- The premise is not the conclusion here either. Without the take, the second job begins while the first one's record is left: the consumer is late by one job,
--- though nothing is refused.
+-- The premise is not the conclusion here either. Without the take, the second job begins while the first job's record
+-- is left: the consumer is late by one job, although nothing is refused.
 late_by_one : IsLateByAtMost one_worker (Res 0 0 8 0 ∷ Sub 0 ∷ Res 0 1 8 16 ∷ []) (λ w. (Res 0 0 8 0 ∷ Sub 0 ∷ []) ∷ (Res 0 1 8 16 ∷ []) ∷ []) 0 → ⊥
 late_by_one late =
     let one : 1 ≤ 0 = late (Res 0 0 8 0 ∷ Sub 0 ∷ []) (Res 0 1 8 16) [] refl in

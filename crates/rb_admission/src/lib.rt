@@ -1,11 +1,15 @@
-//! Admission to a ring: when none of its reservations is refused for want of room, however slow its consumer is.
+//! Admission to a ring: conditions under which no reservation is refused for lack of room, however slow the ring's
+//! consumer is.
 //!
-//! A worker asks the ring for its untaken bytes before each turn (a query for `AVAIL_DATA`), and begins the turn only if what is left has room for a turn of
-//! every worker. What a worker can ask for in a turn is known beforehand: the cost of the programs that it runs, times how often it runs them.
+//! Before each turn, a worker queries the ring for its untaken bytes (`AVAIL_DATA`), and begins the turn only if the
+//! rest has room for a turn of every worker. What a worker can request in a turn is known beforehand: the cost of the
+//! programs that it runs, times the number of their runs.
 //!
-//! A host whose workers do not look has a second law (`none_is_refused_on_time`): its premise is by how many jobs the consumer is late.
+//! For hosts whose workers do not look there is a second law (`none_is_refused_on_time`), whose premise is the number
+//! of jobs by which the consumer is late.
 //!
-//! There is no code to run here. The laws are contracts, and their definitions are in `specs/Admission.antt` and `specs/Lateness.antt`.
+//! This crate has no code to run. The laws are contracts, and their definitions are in `specs/Admission.antt` and
+//! `specs/Lateness.antt`.
 #![tactic(auto)]
 
 mod admission_laws;

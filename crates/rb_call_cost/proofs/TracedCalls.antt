@@ -25,10 +25,10 @@ use Rattle.rb_cost.proofs.Running.{runs_stay}
 use Rattle.rb_cost.proofs.Coming.{runs_have_moments}
 use Rattle.rb_call_cost.specs.CallCosts.{asks, asked_span, AreCallsWithin, IsVerified, CallsStayWithin}
 
--- ---- sums over calls, whatever is counted
+-- ---- sums over calls, for any weight
 
 module _ (g : HelperCall → ℕ) where
-  -- what a moment counts
+  -- the weight of a moment
   abbrev counted : Option HelperCall → ℕ
   counted None = 0
   counted (Some call) = g call
@@ -53,7 +53,7 @@ module _ (g : HelperCall → ℕ) where
       omega arith
 
   module _ (f : Done → ℕ) {R : Type 0} (bytes_of : R → List ℕ) (with_bytes : R → List ℕ → R) (same : (held : List (ℕ × R)) (call : HelperCall) (made : AnsweredCall R) → IsMade bytes_of with_bytes held call made → g call ≡ f (note_of made)) where
-    -- the calls of the meaning with their answers, as they were made
+    -- the calls of the semantics with their answers, and the calls that were made
     made_counted : (held : List (ℕ × R)) (calls : List HelperCall) (made : List (AnsweredCall R)) → AreMade bytes_of with_bytes held calls made
         → sum_by f (notes_of made) ≡ of_answered (zip calls (map traced_answer (notes_of made)))
     made_counted held [] [] h = refl
@@ -67,7 +67,7 @@ module _ (g : HelperCall → ℕ) where
         sum_by-cons (λ (c : HelperCall × HelperAnswer). g c.0) (call, traced_answer (note_of m)) (zip calls (map traced_answer (notes_of made))) in
         omega arith
 
--- ---- what a call asks for
+-- ---- what a call requests
 
 module _ {R : Type 0} (bytes_of : R → List ℕ) (with_bytes : R → List ℕ → R) where
   asks_same : (n : ℕ) (held : List (ℕ × R)) (call : HelperCall) (made : AnsweredCall R) → IsMade bytes_of with_bytes held call made → ◌≡◌ {A = ℕ} (cond (is_on n (asked_by_call call)) 1 0) (cond (asks n (note_of made)) 1 0)
@@ -95,7 +95,7 @@ module _ {R : Type 0} (bytes_of : R → List ℕ) (with_bytes : R → List ℕ �
       within : IsRunWithin subject cost h.last h.before
       within = runs_stay subject cost context h.last h.before v.well_shaped v.begins v.valid is long h.moments
 
-      -- what is counted of the notes is at most what is counted of the moments
+      -- the total weight of the trace is at most that of the moments
       counted_below : (g : HelperCall → ℕ) (f : Done → ℕ) → ((held : List (ℕ × R)) (call : HelperCall) (m : AnsweredCall R) → IsMade bytes_of with_bytes held call m → g call ≡ f (note_of m))
           → sum_by f (notes_of made) ≤ sum_by (λ m. counted g (call_at subject.program m)) (h.last ∷ h.before)
       unfolding answers
@@ -106,7 +106,7 @@ module _ {R : Type 0} (bytes_of : R → List ℕ) (with_bytes : R → List ℕ �
           let third : of_answered g (calls_in subject.program (h.last ∷ h.before)) ≤ sum_by (λ m. counted g (call_at subject.program m)) (h.last ∷ h.before) = answered_below g subject.program (h.last ∷ h.before) in
           omega arith
 
-      -- by what each moment counts
+      -- the same, given the weight of each moment
       weighed : (g : HelperCall → ℕ) (f : Done → ℕ) → ((held : List (ℕ × R)) (call : HelperCall) (m : AnsweredCall R) → IsMade bytes_of with_bytes held call m → g call ≡ f (note_of m))
           → (w : Moment → ℕ) → ((m : Moment) → counted g (call_at subject.program m) ≡ w m) → sum_by f (notes_of made) ≤ sum_by w (h.last ∷ h.before)
       weighed g f same w each =
@@ -146,7 +146,7 @@ module _ {R : Type 0} (bytes_of : R → List ℕ) (with_bytes : R → List ℕ �
           lengths [] = refl
           lengths (note ∷ notes) = let more : sum_by (λ (n : Done). 1) (note ∷ notes) ≡ 1 + sum_by (λ (n : Done). 1) notes = sum_by-cons (λ (n : Done). 1) note notes in let rest : sum_by (λ (n : Done). 1) notes ≡ length notes = lengths notes in omega arith
 
-    -- by the outcome of the run
+    -- the same, given the outcome of the run
     by_outcome : (outcome : Outcome) → (run_under subject context (notes_of made)).outcome ≡ outcome → EndsAtMoment subject.program (entry_program_state context) (run_under subject context (notes_of made)).calls answers outcome
     unfolding answers
     by_outcome outcome is = subst (EndsAtMoment subject.program (entry_program_state context) (run_under subject context (notes_of made)).calls answers) is

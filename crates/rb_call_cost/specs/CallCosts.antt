@@ -1,4 +1,4 @@
--- What the calls of a run ask for at most, by the trace that the run leaves (own).
+-- Bounds on what the calls of a run request, by the trace that the run leaves (own).
 use Rattle.std.specs.Prelude.{ℕ, ◌<◌, ◌≤◌, ◌==◌, Bool, false, List, length, count_by, sum_by, Result, if◌then◌else◌}
 use Rattle.rb_program.specs.Shape.{IsWellShaped, IsInstructionStart}
 use Rattle.rb_verifier.specs.Annotation.{HasValid}
@@ -13,32 +13,32 @@ use Rattle.rb_cost.specs.declared.cost.Cost.{Cost}
 use Rattle.rb_cost.specs.Cost.{IsCost}
 use Rattle.rb_cost.specs.Runs.{ring_cost_at}
 
--- whether a call asked for a record of a ring, granted or refused
+-- whether a call requested a record of a ring, granted or refused
 abbrev pub asks : ℕ → Done → Bool
 asks ring (Reserve r len flags granted) = r == ring
 asks ring (Output r len flags answer) = r == ring
 asks ring call = false
 
--- how many bytes of the ring that record takes: its span
+-- how many bytes of the ring the requested record takes: its span
 abbrev pub asked_span : ℕ → Done → ℕ
 asked_span ring (Reserve r len flags granted) = if r == ring then span len else 0
 asked_span ring (Output r len flags answer) = if r == ring then span len else 0
 asked_span ring call = 0
 
--- the calls are no more than a cost has, and ask for no more records and bytes of any ring
+-- the calls stay within a cost: their number, and for each ring, the records and bytes that they request
 pub record AreCallsWithin (subject : Subject) (cost : Cost) (calls : List Done) : Type 0 where
   pub count : length calls ≤ cost.calls
   pub records : (ring : ℕ) → ring < subject.rings → count_by (asks ring) calls ≤ (ring_cost_at cost ring).records
   pub bytes : (ring : ℕ) → ring < subject.rings → sum_by (asked_span ring) calls ≤ (ring_cost_at cost ring).bytes
 
--- a program that was verified: it is well shaped, and has a valid annotation
+-- a verified program: it is well shaped and has a valid annotation
 pub record IsVerified (subject : Subject) : Type 0 where
   pub well_shaped : IsWellShaped subject.program
   pub begins : IsInstructionStart subject.program 0
   pub valid : HasValid (limits_of subject) subject.program
 
--- The calls of a run stay within the cost of its program, whatever they are answered. `RunMatches` and `TellsLength` are what `rb_interp::run` and a job ensure
--- of their calls and their result.
+-- The calls of a run stay within the cost of its program for all answers. `RunMatches` and `TellsLength` are what
+-- `rb_interp::run` and a job ensure about their calls and their result.
 abbrev pub CallsStayWithin : {R : Type 0} → (R → List ℕ) → (R → List ℕ → R) → Type 0
 CallsStayWithin {R} bytes_of with_bytes =
     (subject : Subject) (cost : Cost) (context : List ℕ) (made : List (AnsweredCall R)) (result : Result ℕ RunFault)

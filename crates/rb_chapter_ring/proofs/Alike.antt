@@ -1,4 +1,4 @@
--- A ring that keeps a chapter is, by the whole history, the ring that it was.
+-- A ring with a chapter, seen as the ring with its whole history.
 use Rattle.std.proofs.Common.{◌≡◌, ℕ, ◌<◌, ◌↔◌, true, false, List, [], ◌∷◌, ◌++◌, is_some, length, sym, ap, ◌∙◌, subst, append_assoc, append-nil}
 use Rattle.std.specs.FinMap.{insert}
 use Rattle.std.proofs.lemmas.List.{append_cancel_left}
@@ -93,7 +93,7 @@ module _ (earlier : List Entry) (old new : ChapterRing) (is : ContinuesHistory e
     history_is = ap (λ c. earlier ++ c.entries) l ∙ sym (append_assoc earlier old.chapter.entries es);
   }
 
-  -- the same chapter with these entries more
+  -- the same chapter with these entries appended
   logs-back : (es : List Entry) → IsSameChapter old new → WholeLogs (whole_ring earlier old) (whole_ring earlier new) es → LogsByChapter old new es
   logs-back es same l =
       same ∙ ap (λ x. record old.chapter { entries = x }) (append_cancel_left earlier new.chapter.entries (old.chapter.entries ++ es) (l.history_is ∙ append_assoc earlier old.chapter.entries es))

@@ -1,4 +1,4 @@
--- A ring that did nothing yet.
+-- A new ring.
 use Rattle.std.proofs.Common.{◌≡◌, ℕ, [], refl, sym, ap, subst, arith}
 use Rattle.std.proofs.lemmas.List.Elements.{All-nil}
 use Rattle.rb_history.specs.RoomRule.{Setup}
@@ -11,7 +11,7 @@ use Rattle.rb_chapter_ring.proofs.CountSteps.{zero_counts}
 use Rattle.rb_chapter_ring.specs.inner.Ordinals.{taken_before}
 use Rattle.rb_chapter_ring.specs.inner.ChapterRingBody.{IsStored, IsRingOf}
 
--- what it stands for
+-- the summary at the end of its chapter
 pub begins-closing : (room : ℕ) (r : Setup) → closing_of (first_chapter room r) ≡ empty_ring r
 begins-closing room r = closing-none [] (first_chapter room r) (empty-kept room r).continues refl
 

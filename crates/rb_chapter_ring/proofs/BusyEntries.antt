@@ -1,4 +1,4 @@
--- What each entry changes of the busy records, and that the book follows it.
+-- What each entry changes in the set of busy records, and that the book follows it.
 use Rattle.std.proofs.Common.{◌≡◌, ◌≢◌, ℕ, ◌<◌, ◌≤◌, ◌==◌, ◌||◌, Bool, true, false, List, [], ◌∷◌, ◌++◌, Option, Some, None, length, zero, suc, ◌⊎◌, refl, sym, ap, ◌∙◌, subst, inl, inr, arith, append_assoc}
 use Rattle.std.specs.List.{list_any, Contains}
 use Rattle.std.proofs.lemmas.Bool.{cases_eq, cases_lt, eq-eqb, ne_eqb, or_from, or_left, or_parts, and_from, false_from_ne_true, true≢false}
@@ -21,7 +21,7 @@ use Rattle.rb_chapter_ring.specs.Hands.{out_record, Hands, HandBook, in_hand, ha
 use Rattle.rb_chapter_ring.specs.HandLaws.{BookGoesOn}
 use Rattle.rb_chapter_ring.proofs.ChangedHands.{hand-here, hand-there}
 
--- ---- busy is neither submitted nor discarded
+-- ---- busy means neither submitted nor discarded
 
 busy-parts : (s d t : Bool) → status_by s d t ≡ Busy → (s ≡ false) × (d ≡ false)
 busy-parts s true t e = cc
@@ -32,13 +32,13 @@ busy-parts false false t e = (refl, refl)
 busy-from : (s d t : Bool) → s ≡ false → d ≡ false → status_by s d t ≡ Busy
 busy-from s d t e f = ap (λ x. status_by x d t) e ∙ ap (λ x. status_by false x t) f
 
--- busy over the one history where it is over the other
+-- a record that is busy in one history is busy in the other
 pub busy-same : (h k : List Entry) (p : ℕ) → is_submitted_at k p ≡ is_submitted_at h p → is_discarded_at k p ≡ is_discarded_at h p → status_of h p ≡ Busy → status_of k p ≡ Busy
 busy-same h k p s d b =
     let parts = busy-parts (is_submitted_at h p) (is_discarded_at h p) (is_taken_at h p) b in
     busy-from (is_submitted_at k p) (is_discarded_at k p) (is_taken_at k p) (s ∙ parts.0) (d ∙ parts.1)
 
--- a list contains what grants
+-- if a list contains an entry that passes the test, the test holds for the list
 pub contains-any : (t : Entry → Bool) (h : List Entry) (e : Entry) → Contains h e → t e ≡ true → list_any t h ≡ true
 contains-any t h e is hit = list_any_of t h e is hit
   where
@@ -51,9 +51,9 @@ is-granted h w k n p is = contains-any (is_grant_at p) h (Res w k n p) is (eq-eq
 pub is-record : (h : List Entry) (w k n p : ℕ) → Contains h (Res w k n p) → is_record_of w h p ≡ true
 is-record h w k n p is = contains-any (is_grant_to w p) h (Res w k n p) is (and_from (w == w) (p == p) (eq-eqb w w refl) (eq-eqb p p refl))
 
--- ---- one entry more
+-- ---- one more entry
 
--- what of the busy records one entry more changes
+-- what one more entry changes in the set of busy records
 module _ (h : List Entry) (e : Entry) where
   pub busy-before : (p w k n : ℕ) → (Res w k n p ≡ e → ⊥) → is_submit p e ≡ false → is_discard p e ≡ false → IsBusy (h ++ e ∷ []) p w k n → IsBusy h p w k n
   busy-before p w k n other s d b = record {
@@ -74,7 +74,7 @@ module _ (h : List Entry) (e : Entry) where
 
 -- ---- an entry that grants
 
--- nothing was granted or settled at the position of the next record
+-- no record was granted or committed at the position of the next record
 module _ (r : Setup) (h : List Entry) (legal : IsLegal r h) (w k n p : ℕ) (longer : IsLegal r (h ++ Res w k n p ∷ [])) where
   not-granted : is_granted_at h p ≡ false
   not-granted = false_from_ne_true (is_granted_at h p) (λ was.
@@ -90,7 +90,7 @@ module _ (r : Setup) (h : List Entry) (legal : IsLegal r h) (w k n p : ℕ) (lon
   pub other-place : (q v j m : ℕ) → IsBusy h q v j m → q ≢ p
   other-place q v j m b same = true≢false (sym (is-granted h v j m q b.granted_is) ∙ ap (is_granted_at h) same ∙ not-granted)
 
-  -- the record is busy then
+  -- the new record is busy
   pub new-busy : IsBusy (h ++ Res w k n p ∷ []) p w k n
   new-busy = record {
     granted_is = Contains-push h (Res w k n p);
@@ -99,7 +99,7 @@ module _ (r : Setup) (h : List Entry) (legal : IsLegal r h) (w k n p : ℕ) (lon
         (list_any-snoc (is_discard p) h (Res w k n p) ∙ or-false (is_discarded_at h p) ∙ not-settled.1);
   }
 
--- what is busy then was busy, or is the new record
+-- a record that is then busy was busy before, or is the new record
 busy-cases : (h : List Entry) (w k n p q v j m : ℕ) → IsBusy (h ++ Res w k n p ∷ []) q v j m → IsBusy h q v j m ⊎ (Res v j m q ≡ Res w k n p)
 busy-cases h w k n p q v j m b = elim (Contains-push_cases h (Res w k n p) (Res v j m q) b.granted_is) [
   | inl old ↦ inl (record {
@@ -110,7 +110,7 @@ busy-cases h w k n p q v j m b = elim (Contains-push_cases h (Res w k n p) (Res 
   | inr new ↦ inr (sym new)
 ]
 
--- an entry that neither grants nor settles changes no busy record
+-- an entry that neither grants nor commits changes no busy record
 quiet : (h : List Entry) (e : Entry) (book : HandBook) → ((p w k n : ℕ) → Res w k n p ≡ e → ⊥) → ((p : ℕ) → is_submit p e ≡ false) → ((p : ℕ) → is_discard p e ≡ false) → IsBookOf book h → IsBookOf book (h ++ e ∷ [])
 quiet h e book other s d is = record {
   out_is_busy = λ w g o at. busy-after h e o.pos w o.serial o.len (s o.pos) (d o.pos) (is.out_is_busy w g o at);
@@ -157,15 +157,15 @@ abbrev entry-position : Entry → ℕ
 entry-position (Res w k n p) = p
 entry-position _ = 0
 
--- where the list is cut at an element
+-- a list can be split at an element that it contains
 contains_split : (h : List Entry) (e : Entry) → Contains h e → (before : List Entry) × (after : List Entry) × (h ≡ before ++ e ∷ after)
 contains_split [] e (i, l, is) = absurd (omega arith)
 contains_split (x ∷ h) e (zero, l, is) = ([], h, ap (λ y. y ∷ h) is)
 contains_split (x ∷ h) e (suc i, l, is) = let c = contains_split h e (i, omega arith, is) in (x ∷ c.0, c.1, ap (λ t. x ∷ t) c.2)
 
--- ---- an entry that settles a busy record
+-- ---- an entry that commits a busy record
 
--- a busy record that was submitted or discarded is busy no more
+-- a busy record that was submitted or discarded is no longer busy
 pub no-more : (h : List Entry) (e : Entry) (p w k n : ℕ) → (is_submit p e || is_discard p e) ≡ true → IsBusy (h ++ e ∷ []) p w k n → ⊥
 no-more h e p w k n settles b =
     let parts = busy-parts (is_submitted_at (h ++ e ∷ []) p) (is_discarded_at (h ++ e ∷ []) p) (is_taken_at (h ++ e ∷ []) p) b.busy in
@@ -174,7 +174,7 @@ no-more h e p w k n settles b =
     true≢false (sym settles ∙ or_from (is_submit p e) (is_discard p e) s.1 d.1)
 
 module _ (r : Setup) (h : List Entry) (book : HandBook) (legal : IsLegal r h) (shaped : IsShaped r.workers book) (is : IsBookOf book h) where
-  -- a worker that has a record is one of the ring's
+  -- a worker that has a record is one of the ring's workers
   pub in-ring : (w k n p : ℕ) → Contains h (Res w k n p) → w < r.workers
   in-ring w k n p there = let c = contains_split h (Res w k n p) there in (legal.each c.0 (Res w k n p) c.1 c.2).0
 
@@ -184,7 +184,7 @@ module _ (r : Setup) (h : List Entry) (book : HandBook) (legal : IsLegal r h) (s
     | inr far ↦ absurd (none-out o (sym (past-hands (hands_of book w) hand (subst (λ n. n ≤ hand) (sym (shaped.four w low)) far)) ∙ at))
   ]
 
-  -- the busy record of a hand is settled, and the hand is free
+  -- the busy record of a hand is committed, and the hand is free
   settled : (e : Entry) (w hand : ℕ) (o : OutRecord) → hand_at book w hand ≡ Some o → ((p u k n : ℕ) → Res u k n p ≡ e → ⊥) → (is_submit o.pos e || is_discard o.pos e) ≡ true
       → ((p : ℕ) → p ≢ o.pos → (is_submit p e ≡ false) × (is_discard p e ≡ false)) → IsBookOf (with_hand book w hand None) (h ++ e ∷ [])
   settled e w hand o at other settles off =
@@ -229,7 +229,7 @@ module _ (r : Setup) (h : List Entry) (book : HandBook) (legal : IsLegal r h) (s
       here : hand_at (with_hand book w hand (Some (out_record p k n))) w hand ≡ Some (out_record p k n)
       here = hand-here r.workers book shaped w hand low free.below (Some (out_record p k n))
 
-      -- what is in a hand now was in it, or is the new record
+      -- the content of a hand was in it before, or is the new record
       cases-now : (v g : ℕ) (x : OutRecord) → hand_at (with_hand book w hand (Some (out_record p k n))) v g ≡ Some x
           → (hand_at book v g ≡ Some x) ⊎ ((v ≡ w) × (g ≡ hand) × (x ≡ out_record p k n))
       cases-now v g x at = elim (cases_eq v w) [
@@ -273,7 +273,7 @@ module _ (r : Setup) (h : List Entry) (book : HandBook) (legal : IsLegal r h) (s
               let d : q ≡ p = ap entry-position e in
               (λ i. hand_at (with_hand book w hand (Some (out_record p k n))) (a i) hand) ∙ here ∙ (λ i. Some (out_record (sym d i) (sym b i) (sym c i)))
 
-  -- a record that is granted and submitted at once is never busy between calls
+  -- a record that is granted and submitted in one call is never busy between calls
   output : (w k n p : ℕ) → IsLegal r (h ++ Res w k n p ∷ Sub p ∷ []) → IsBookOf book (h ++ Res w k n p ∷ Sub p ∷ [])
   output w k n p longer =
       let mid = h ++ Res w k n p ∷ [] in

@@ -1,4 +1,4 @@
--- Chapters that a ring handed out, and its own behind them.
+-- The chapters that a ring handed out, followed by its current one.
 use Rattle.std.proofs.Common.{◌≡◌, ◌+◌, List, [], ◌∷◌, ◌++◌, length, refl, sym, ap, ◌∙◌, subst, arith}
 use Rattle.rb_history.specs.RoomRule.{Setup}
 use Rattle.rb_history.proofs.Laws.{kept-none}
@@ -7,7 +7,7 @@ use Rattle.rb_chapter_ring.specs.WholeHistory.{Binds, ContinuesHistory}
 use Rattle.rb_chapter_ring.proofs.Join.{empty-is, chapters-join}
 use Rattle.rb_chapter_ring.proofs.Bound.{once-bound}
 
--- the same by the first chapter that was handed out
+-- the same, in terms of the first chapter that was handed out
 abbrev pub AreHandedOut : Setup → List Chapter → Chapter → Type 0
 AreHandedOut r [] c = (c.number ≡ 0) × (c.opening ≡ empty_ring r) × IsLegalChapter c
 AreHandedOut r (h ∷ hs) c = (h.number ≡ 0) × (h.opening ≡ empty_ring r) × IsLegalChapter h × AreMeeting h (hs ++ c ∷ [])
@@ -51,9 +51,9 @@ meeting-number : (h : Chapter) (hs : List Chapter) (c : Chapter) → AreMeeting 
 meeting-number h [] c m = let n = m.0.next_number in omega (arith, n)
 meeting-number h (x ∷ hs) c m = let n = m.0.next_number in let rest = meeting-number x hs c m.2 in omega (arith, n, rest)
 
--- ---- what holds of a ring's chapters
+-- ---- facts about a ring's chapters
 
--- its own chapter goes on from the entries of those handed out
+-- the current chapter continues the entries of those that were handed out
 pub binds-continue : (hs : List Chapter) (c : Chapter) → Binds hs c → ContinuesHistory (joined hs) c
 binds-continue hs c b = continue hs c (handed-out-are hs c b)
   where
@@ -64,7 +64,7 @@ binds-continue hs c b = continue hs c (handed-out-are hs c b)
         let join = chapters-join c.opening.setup h hs (record { from_zero = a.0; from_empty = a.1; legal = a.2; meeting = meeting-front h hs c a.3 }) in
         record { earlier_legal = join.legal; opened = last.0.goes_on ∙ join.stands; legal = last.1 }
 
--- the same chapters, where its own has other entries
+-- the same chapters, with other entries in the current one
 pub binds-same : (hs : List Chapter) (c d : Chapter) → Binds hs c → d.number ≡ c.number → d.opening ≡ c.opening → IsLegalChapter d → Binds hs d
 binds-same hs c d b number opening legal = handed-out-bind hs d (subst (λ r. AreHandedOut r hs d) (sym (ap (λ o. o.setup) opening)) (same hs c d (handed-out-are hs c b) number opening legal))
   where
@@ -72,7 +72,7 @@ binds-same hs c d b number opening legal = handed-out-bind hs d (subst (λ r. Ar
     same [] c d a number opening legal = (number ∙ a.0, opening ∙ a.1, legal)
     same (h ∷ hs) c d a number opening legal = (a.0, a.1, a.2, meeting-swap h hs c d number opening legal a.3)
 
--- its own is handed out, and the next one meets it
+-- the current chapter is handed out, and the next one meets it
 pub binds-next : (hs : List Chapter) (c d : Chapter) → Binds hs c → Meets c d → IsLegalChapter d → Binds (hs ++ c ∷ []) d
 binds-next hs c d b meets legal = handed-out-bind (hs ++ c ∷ []) d (subst (λ r. AreHandedOut r (hs ++ c ∷ []) d) (sym (ap (λ o. o.setup) meets.goes_on)) (next hs c d (handed-out-are hs c b) meets legal))
   where
@@ -80,7 +80,7 @@ binds-next hs c d b meets legal = handed-out-bind (hs ++ c ∷ []) d (subst (λ 
     next [] c d a meets legal = (a.0, a.1, a.2, (meets, legal, tt))
     next (h ∷ hs) c d a meets legal = (a.0, a.1, a.2, meeting-more h hs c d a.3 meets legal)
 
--- as many chapters were handed out as the number of its own says
+-- the current chapter's number is the number of chapters that were handed out
 pub binds-number : (hs : List Chapter) (c : Chapter) → Binds hs c → c.number ≡ length hs
 binds-number hs c b = number hs c (handed-out-are hs c b)
   where
@@ -88,6 +88,6 @@ binds-number hs c b = number hs c (handed-out-are hs c b)
     number [] c a = a.0
     number (h ∷ hs) c a = let n = meeting-number h hs c a.3 in omega (arith, n, a.0)
 
--- the entries once its own is handed out
+-- the entries after the current chapter was handed out
 pub joined-next : (hs : List Chapter) (c : Chapter) → Binds hs c → joined (hs ++ c ∷ []) ≡ joined hs ++ c.entries
 joined-next hs c b = (once-bound hs c b).entries

@@ -1,4 +1,4 @@
--- The workers' numbers in an opening.
+-- The workers' totals in an opening.
 use Rattle.std.proofs.Common.{◌≡◌, ℕ, zero, suc, ◌<◌, List, [], ◌∷◌, ◌++◌, length, get_or, map, replicate, refl, sym, ap, ◌∙◌, inl, inr, arith, add-one, length-append}
 use Rattle.std.proofs.lemmas.Bool.{cases_lt}
 use Rattle.std.proofs.lemmas.List.{map-append, get_or_append_left, get_or_push, get_or-map, replicate_more}
@@ -28,19 +28,19 @@ map-below f g (suc n) same =
     let last = same n (omega arith) in
     map-append f (numbers_below n) (n ∷ []) ∙ (λ i. front i ++ last i ∷ []) ∙ sym (map-append g (numbers_below n) (n ∷ []))
 
--- what an opening has for a worker of the ring
+-- an opening's totals of a worker of the ring
 pub tally-at : (r : Setup) (h : List Entry) (w : ℕ) → w < r.workers → tally_at (standing_of r h) w ≡ tally_of w h
 tally-at r h w l =
     get_or-map (λ v. tally_of v h) (numbers_below r.workers) w 0 no_tally (omega (arith, length-below r.workers))
     ∙ ap (λ v. tally_of v h) (get-below r.workers w 0 l)
 
--- what an opening has for a worker at the end of entries
+-- a worker's totals in the opening after the entries
 pub tally-after : (o : Standing) (t : List Entry) (w : ℕ) → w < o.setup.workers → tally_at (standing_after o t) w ≡ tally_from o w t
 tally-after o t w l =
     get_or-map (λ v. tally_from o v t) (numbers_below o.setup.workers) w 0 no_tally (omega (arith, length-below o.setup.workers))
     ∙ ap (λ v. tally_from o v t) (get-below o.setup.workers w 0 l)
 
--- nobody did anything yet
+-- no worker has entries yet
 pub tallies-none : (n : ℕ) → map (λ w. tally_of w []) (numbers_below n) ≡ replicate n no_tally
 tallies-none zero = refl
 tallies-none (suc n) =

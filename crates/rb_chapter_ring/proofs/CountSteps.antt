@@ -1,4 +1,4 @@
--- What each entry changes of the six counts.
+-- What each entry changes in the six counts.
 use Rattle.std.proofs.Common.{◌≡◌, ℕ, ◌+◌, ◌-◌, ◌*◌, ◌<◌, ◌≤◌, ◌^◌, Bool, true, false, ◌||◌, cond, List, [], ◌∷◌, ◌++◌, refl, sym, ap, arith}
 use Rattle.std.specs.List.{sum_by, count_by}
 use Rattle.std.proofs.lemmas.Bool.{true≢false}
@@ -39,7 +39,7 @@ counting_refusal c = record c { refused = capped (c.refused + 1) }
 abbrev pub counting_end : RecordEnd → Counts → Counts
 counting_end end c = record c { discarded = c.discarded + discards_by_end end; waiting = c.waiting + as_bit Waiting (status_of_end end); busy = c.busy - 1 }
 
--- a take hands the record out, or passes it over
+-- a take returns the record, or skips it
 abbrev pub counting_take : Bool → Counts → Counts
 counting_take true c = record c { consumed = c.consumed + 1; waiting = c.waiting - 1 }
 counting_take false c = c
@@ -56,7 +56,7 @@ pub discarded-taken : (waited : Bool) (c : Counts) → (counting_take waited c).
 discarded-taken true c = refl
 discarded-taken false c = refl
 
--- so few that one more fits
+-- counts so low that one more fits
 pub record IsCountable (c : Counts) : Type 0 where
   pub made : c.made < 2 ^ 62
   pub consumed : c.consumed < 2 ^ 62
@@ -64,7 +64,7 @@ pub record IsCountable (c : Counts) : Type 0 where
   pub waiting : c.waiting < 2 ^ 62
   pub busy : c.busy < 2 ^ 62
 
--- ---- how many there are
+-- ---- the numbers of records
 
 grants-within : (h : List Entry) → 8 * count_by is_grant_entry h ≤ sum_by granted_span h
 grants-within [] = omega arith
@@ -122,7 +122,7 @@ module _ (r : Setup) (h : List Entry) where
       let consumed : c.consumed ≡ status_count Consumed (h ++ e ∷ []) = omega (arith, ap (λ (x : Counts). x.consumed) is, ap (λ (x : Counts). x.made) is, ap (λ (x : Counts). x.discarded) is, ap (λ (x : Counts). x.waiting) is, ap (λ (x : Counts). x.busy) is, made-split h, made-split (h ++ e ∷ []), made, discarded, waiting, busy) in
       λ i. record { made = made i; refused = refused i; consumed = consumed i; discarded = discarded i; waiting = waiting i; busy = busy i }
 
-  -- what an end adds
+  -- what a commit adds
   of-end : (end : RecordEnd) (p : ℕ) → (bit (is_grant_entry (entry_of_end end p)) ≡ 0) × (bit (is_refusal_entry (entry_of_end end p)) ≡ 0) × (bit (is_discard_entry (entry_of_end end p)) ≡ discards_by_end end)
       × (as_bit Busy (status_of_end end) ≡ 0) × (discards_by_end end + as_bit Waiting (status_of_end end) ≡ 1)
   of-end Submit p = (refl, refl, refl, refl, refl)

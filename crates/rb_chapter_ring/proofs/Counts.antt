@@ -1,4 +1,4 @@
--- The six counts of an opening are those of the history that it stands for.
+-- The six counts of an opening are those of the history that it summarizes.
 use Rattle.std.proofs.Common.{◌≡◌, ℕ, zero, suc, ◌+◌, ◌<◌, ◌≤◌, ◌==◌, Bool, true, false, cond, ◌||◌, List, [], ◌∷◌, ◌++◌, map, refl, sym, ap, ◌∙◌, inl, inr, arith, subst, append_assoc, append-nil}
 use Rattle.std.specs.List.{sum_by, count_by, All, Contains}
 use Rattle.std.proofs.lemmas.Bool.{cases_lt, eq-eqb, ne_eqb, true≢false}
@@ -52,7 +52,8 @@ sum-none : (ws : List ℕ) → sum_by (λ (w : ℕ). 0) ws ≡ 0
 sum-none [] = refl
 sum-none (w ∷ ws) = omega (arith, sum_by-cons (λ (x : ℕ). 0) w ws, sum-none ws)
 
--- where each entry that one test passes is one worker's by another, the workers' counts sum to the one test's
+-- if each entry that one test passes belongs to exactly one worker by another test, the workers' counts sum up to the
+-- count of the first
 count-once : (t : ℕ → Entry → Bool) (u : Entry → Bool) (ws : List ℕ) (es : List Entry) → ((x : Entry) → Contains es x → sum_by (λ w. bit (t w x)) ws ≡ bit (u x)) → sum_by (λ w. count_by (t w) es) ws ≡ count_by u es
 count-once t u ws [] each = sum-none ws
 count-once t u ws (e ∷ es) each =
@@ -121,9 +122,9 @@ module _ (r : Setup) (h : List Entry) (l : IsLegal r h) where
   discarded-is : sum_by (λ t. t.discarded) (standing_of r h).tallies ≡ count_by is_discard_entry h
   discarded-is = over-workers (λ t. t.discarded) ∙ count-once (λ w. is_discard_of w h) is_discard_entry (numbers_below r.workers) h discard-one
 
--- ---- what was taken as an event
+-- ---- records that were taken as events
 
--- each record is an event, busy, waiting or discarded
+-- each record was consumed or discarded, or is busy or waiting
 abbrev IsSplit : List Entry → Type 0
 IsSplit h = count_by is_grant_entry h ≡ events_of h + shown_count Busy (records h) + shown_count Waiting (records h) + count_by is_discard_entry h
 

@@ -1,4 +1,4 @@
--- The first chapter of a ring where nothing was done is one.
+-- The first chapter of a new ring satisfies the invariant.
 use Rattle.std.proofs.Common.{ℕ, ◌≡◌, List, [], refl, sym, subst, arith}
 use Rattle.rb_history.specs.declared.entries.Entry.{Entry}
 use Rattle.rb_history.specs.RoomRule.{Setup}

@@ -1,4 +1,4 @@
--- A book begins free, and a worker has at most four busy records.
+-- The initial book is free, and a worker has at most four busy records.
 use Rattle.std.proofs.Common.{◌≡◌, ◌≢◌, ℕ, ◌<◌, ◌≤◌, [], Option, Some, None, length, sym, ap, ◌∙◌, subst, inl, inr, ◌⊎◌, arith}
 use Rattle.std.proofs.lemmas.Bool.{cases_eq, cases_lt}
 use Rattle.std.proofs.lemmas.List.{get_or_past, get_or-replicate, length-replicate}
@@ -7,7 +7,7 @@ use Rattle.rb_chapter_ring.specs.Hands.{out_record, in_hand, hands_of, hand_at, 
 use Rattle.rb_chapter_ring.specs.HandLaws.{BookBeginsFree, AtMostFourBusy}
 use Rattle.rb_chapter_ring.proofs.BusyEntries.{in-ring, below-four, some-out}
 
--- ---- nothing is out where nothing happened
+-- ---- in the empty history no hand is occupied
 
 free-at : (workers w : ℕ) → w < workers → hands_of (free_book workers) w ≡ free_hands
 free-at workers w low = get_or-replicate workers w free_hands [] low
@@ -37,7 +37,7 @@ book-begins-free workers = (
   },
 )
 
--- ---- of five hands two are one
+-- ---- of five hands, two are the same
 
 five-hands : (a b c d e : ℕ) → a < 4 → b < 4 → c < 4 → d < 4 → e < 4 → a ≢ b → a ≢ c → a ≢ d → a ≢ e → b ≢ c → b ≢ d → b ≢ e → c ≢ d → c ≢ e → d ≢ e → ⊥
 five-hands a b c d e la lb lc ld le ab ac ad ae bc bd be cd ce de = absurd (omega arith)
@@ -64,7 +64,7 @@ at-most-four-busy r h book legal shaped is w p k n busy =
     let t = two-of-five hand hand-low in
     (t.0, t.1, t.2, t.3, same-place t.0 t.1 (omega arith) t.3 t.4)
   where
-    -- the hand of each, and 4 where there is none
+    -- the hand of each record, and 4 if there is none
     hand : ℕ → ℕ
     hand i = elim (cases_lt i 5) [ inl low ↦ (is.busy_is_out (p i) w (k i) (n i) (busy i low)).0 | inr far ↦ 4 ]
 

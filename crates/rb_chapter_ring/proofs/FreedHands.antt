@@ -1,4 +1,4 @@
--- What is out in the hands of a book once one of them was freed.
+-- The contents of a book's hands after one of them was freed.
 use Rattle.std.proofs.Common.{◌≡◌, ℕ, ◌<◌, Option, Some, None, sym, ◌∙◌, inl, inr}
 use Rattle.std.proofs.lemmas.Bool.{cases_eq}
 use Rattle.rb_chapter_ring.specs.declared.out_record.OutRecord.{OutRecord}
@@ -9,7 +9,7 @@ module _ (workers : ℕ) (book : HandBook) (shaped : IsShaped workers book) (w h
   absent : (o : OutRecord) → ◌≡◌ {A = Option OutRecord} None (Some o) → ⊥
   absent o e = cc
 
-  -- a hand is freed: what is out then was out before
+  -- after a hand is freed, the contents of hands are among those from before
   pub freed-stays : (v g : ℕ) (o : OutRecord) → hand_at (with_hand book w h None) v g ≡ Some o → hand_at book v g ≡ Some o
   freed-stays v g o at = elim (cases_eq v w) [
     | inl mine ↦ elim (cases_eq g h) [

@@ -1,4 +1,4 @@
--- Entries that name no record that was taken before, and what they leave as it was.
+-- Entries that name no record which was taken before, and what they leave unchanged.
 use Rattle.std.proofs.Common.{◌≡◌, ℕ, ◌<◌, ◌≤◌, ◌==◌, Bool, true, false, ◌||◌, List, [], ◌∷◌, refl, sym, ap, ◌∙◌, arith}
 use Rattle.std.specs.List.{list_any, sum_by, All, Contains}
 use Rattle.std.proofs.lemmas.Bool.{ne_eqb, and_right, true≢false, or_left, or_right, false_from_ne_true}
@@ -76,7 +76,7 @@ module _ (r : Setup) (h : List Entry) (k : KeptAs r h) where
       pub discarded-none : is_discarded_at b q ≡ false
       discarded-none = none (is_discard q) no-discard
 
-    -- a position below the producer position is granted no more
+    -- no position below the producer position is granted again
     module _ (q : ℕ) (lt : q < producer_of r.start h) where
       beyond : (x : ℕ) → producer_of r.start h ≤ x → (x == q) ≡ false
       beyond x le = ne_eqb x q (λ e. omega (arith, e, le, lt))
@@ -115,7 +115,7 @@ module _ (r : Setup) (h : List Entry) (k : KeptAs r h) where
       pub span-none : span_of_record b q ≡ 0
       span-none = sum_by-where (GoesFrom h (producer_of r.start h)) (λ (e : Entry). 0) (granted_span_at q) no-span b from ∙ zeros b
 
-  -- nothing below stands at a position that is granted from here on
+  -- no earlier record is at a position that is granted from here on
   module _ (q : ℕ) (le : producer_of r.start h ≤ q) where
     pub not-granted : is_granted_at h q ≡ false
     not-granted = false_from_ne_true (is_granted_at h q) (λ g. omega (arith, le, granted-below h (producer_of r.start h) q k.below g))

@@ -21,7 +21,7 @@ use Rattle.rb_chapter_ring.proofs.Slotted.{many-now, front, behind, split-now, t
 use Rattle.rb_chapter_ring.proofs.TakesOne.{TakesAs, takes-none, takes-busy, takes-it, take-keeps, take-closing}
 
 module _ (earlier : List Entry) (c : Chapter) (sheets : List (List ℕ)) (counts : Counts) (g : IsRingOf earlier c (stored_of c sheets) counts) where
-  -- the chapter that has the take
+  -- the chapter with the take appended
   abbrev pub took : Chapter
   took = with_entry c (Take (consumer_from c.opening c.entries))
 

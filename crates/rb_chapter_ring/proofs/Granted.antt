@@ -1,4 +1,4 @@
--- Who was granted a record, and whether it is busy or waits, counted from an opening.
+-- The worker of a record, and whether it is busy or waiting, counted from an opening.
 use Rattle.std.proofs.Common.{◌≡◌, ℕ, ◌↔◌, ◌==◌, Bool, true, false, ◌||◌, List, ◌++◌, sym, ap, ◌∙◌, inl, inr}
 use Rattle.std.specs.List.{list_any, All, Contains}
 use Rattle.std.proofs.lemmas.Bool.{cases_Bool, or_cases, or_left, or_right, or_from, ne_eqb, and_left, true≢false, false_from_ne_true}

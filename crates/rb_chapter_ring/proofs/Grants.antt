@@ -88,7 +88,7 @@ module _ (earlier : List Entry) (c : Chapter) (stored : List StoredRecord) (coun
   pub serial-of : (w : ℕ) → w < c.opening.setup.workers → (tally_at (closing_of c) w).made ≡ grants_from c.opening w c.entries
   serial-of w low = serial-is earlier c g.kept (closing_of c) refl w low
 
-  -- an opening has the totals of each worker
+  -- an opening has totals for each worker
   pub tallies-long : length (closing_of c).tallies ≡ c.opening.setup.workers
   tallies-long = length-map (numbers_below c.opening.setup.workers) (λ w. tally_from c.opening w c.entries) ∙ length-below c.opening.setup.workers
 

@@ -1,4 +1,4 @@
--- Each call of a ring over chapters keeps its book of hands.
+-- Each call of a ring preserves its book of hands.
 use Rattle.std.proofs.Common.{◌≡◌, ◌↔◌, ℕ, ◌<◌, List, [], ◌∷◌, ◌++◌, Some, None, length, sym, ap, subst}
 use Rattle.rb_history.specs.declared.entries.Entry.{Entry}
 use Rattle.rb_history.specs.declared.entries.Entry.TheVariants.{Res, Full, Sub, Dis, Take}
@@ -22,7 +22,7 @@ use Rattle.rb_chapter_ring.specs.HandLaws.{EntriesKeepBook, CallsKeepHands, Each
 use Rattle.rb_chapter_ring.proofs.ChangedHands.{still-shaped}
 use Rattle.rb_chapter_ring.proofs.BusyEntries.{book-goes-on, in-ring, below-four}
 
--- a book of the busy records by the one reading is one by the other
+-- a book of the busy records by one definition is a book by an equivalent one
 pub holds-same : (book : HandBook) (A B : ℕ → ℕ → ℕ → ℕ → Type 0) → ((p w k n : ℕ) → A p w k n ↔ B p w k n) → HoldsBusy book A → HoldsBusy book B
 holds-same book A B same is = record {
   out_is_busy = λ w h o at. (same o.pos w o.serial o.len).0 (is.out_is_busy w h o at);
@@ -62,7 +62,7 @@ module _ (earlier : List Entry) (old new : HandRing) (kept : IsKept earlier old.
   steps : Steps
   steps = book-goes-on old.ring.chapter.opening.setup (earlier ++ old.ring.chapter.entries) old.hands (whole-legal earlier old.ring.chapter kept.continues) has.shaped (to-whole earlier old.ring.chapter kept.continues old.hands has.holds)
 
-  -- what the new book is, where the new chapter goes on from the same history
+  -- the new book, if the new chapter continues the same history
   pub has-then : (book : HandBook) (added : List Entry) → IsKept earlier new.ring.chapter → WholeLogs (whole_ring earlier old.ring) (whole_ring earlier new.ring) added
       → new.hands ≡ book → IsShaped old.ring.chapter.opening.setup.workers book → IsBookOf book ((earlier ++ old.ring.chapter.entries) ++ added) → HasHands new
   has-then book added kept' logged same shaped is = record {
@@ -70,7 +70,7 @@ module _ (earlier : List Entry) (old new : HandRing) (kept : IsKept earlier old.
     holds = from-whole earlier new.ring.chapter kept'.continues new.hands (subst (λ b. IsBookOf b (earlier ++ new.ring.chapter.entries)) (sym same) (subst (IsBookOf book) (sym logged.history_is) is));
   }
 
-  -- the entries may stand behind
+  -- the entries may follow
   pub longer : (added : List Entry) → IsKept earlier new.ring.chapter → WholeLogs (whole_ring earlier old.ring) (whole_ring earlier new.ring) added
       → IsLegal old.ring.chapter.opening.setup ((earlier ++ old.ring.chapter.entries) ++ added)
   longer added kept' logged = subst (λ s. IsLegal s ((earlier ++ old.ring.chapter.entries) ++ added)) logged.setup_same (subst (IsLegal new.ring.chapter.opening.setup) logged.history_is (whole-legal earlier new.ring.chapter kept'.continues))

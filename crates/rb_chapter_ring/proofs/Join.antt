@@ -10,7 +10,7 @@ use Rattle.rb_chapter_ring.specs.WholeHistory.{ChaptersJoin}
 use Rattle.rb_chapter_ring.proofs.ChapterNumbers.{tallies-none}
 use Rattle.rb_chapter_ring.proofs.Stands.{goes-on}
 
--- the empty ring is what the empty history stands for
+-- the empty ring is the summary of the empty history
 pub empty-is : (r : Setup) → empty_ring r ≡ standing_of r []
 empty-is r = λ i. record { setup = r; producer = sym (add-zero r.start) i; consumer = sym (add-zero r.start) i; records = []; tallies = sym (tallies-none r.workers) i; consumed = 0; skipped = 0 }
 

@@ -71,7 +71,7 @@ module _ (r : Setup) (h : List Entry) (l : IsLegal r h) (t : List Entry) (lt : I
   not-discarded = false_from_ne_true (is_discarded_at (h ++ t) (producer_from (standing_of r h) t))
       (λ is. true≢false (sym ((kept-from-legal r (h ++ t) ((both-ways r h l t).0 lt)).named (producer_from (standing_of r h) t) (or_right _ _ is)) ∙ none))
 
-  -- a record that was granted just now may be submitted
+  -- a record that was just granted may be submitted
   submit-follows : (w k n : ℕ) → MayFollowFrom (standing_of r h) (t ++ Res w k n (producer_from (standing_of r h) t) ∷ []) (Sub (producer_from (standing_of r h) t))
   submit-follows w k n =
       let p = producer_from (standing_of r h) t in

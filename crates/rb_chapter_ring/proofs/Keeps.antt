@@ -1,4 +1,4 @@
--- What each change of a chapter keeps of a ring: what the parts are in common.
+-- What each change of a chapter preserves of a ring: the common parts.
 use Rattle.std.proofs.Common.{◌≡◌, ℕ, ◌+◌, List, ◌∷◌, [], ◌++◌, length, refl, sym, ap, ◌∙◌, subst, append_assoc}
 use Rattle.std.specs.List.{All}
 use Rattle.rb_history.specs.declared.entries.Entry.{Entry}

@@ -1,4 +1,4 @@
--- Entries are legal from an opening exactly where the whole history is legal.
+-- Entries are legal from an opening if and only if the whole history is legal.
 use Rattle.std.proofs.Common.{◌≡◌, ℕ, ◌+◌, ◌<◌, ◌≤◌, ◌==◌, true, false, cond, ◌||◌, List, [], ◌∷◌, ◌++◌, refl, sym, ap, ◌∙◌, inl, inr, arith, subst, append_assoc, append-nil}
 use Rattle.std.specs.List.{list_any, All}
 use Rattle.std.proofs.lemmas.Bool.{cases_lt, or_cases, or_left, true≢false, false_from_ne_true}
@@ -22,7 +22,7 @@ use Rattle.rb_chapter_ring.proofs.From.{GoesFrom, low}
 use Rattle.rb_chapter_ring.proofs.Same.{granted-same, submitted-same, discarded-same, producer-same, consumer-same}
 use Rattle.rb_chapter_ring.proofs.ChapterNumbers.{tally-at}
 
--- a grant from the producer position on
+-- a grant at or beyond the producer position
 abbrev GrantsFrom : ℕ → Entry → Type 0
 GrantsFrom p (Res w k n q) = p ≤ q
 GrantsFrom p _ = Unit {0}
@@ -31,7 +31,7 @@ module _ (r : Setup) (h : List Entry) (k : KeptAs r h) (never : NeverBoth h) whe
   past : (q : ℕ) → consumer_of r.start h ≤ q → is_taken_at h q ≡ false
   past q le = false_from_ne_true (is_taken_at h q) (λ t. omega (arith, le, k.passed q t))
 
-  -- ---- by the old definition
+  -- ---- by the definition over the whole history
 
   more-span : (b : List Entry) (e : Entry) → taken_span h e ≤ taken_span (h ++ b) e
   more-span b (Res w s n q) = omega arith
@@ -169,7 +169,7 @@ module _ (r : Setup) (h : List Entry) (k : KeptAs r h) (never : NeverBoth h) whe
     pub legal-back : IsLegal r (h ++ t)
     legal-back = rest [] t refl (subst (IsLegal r) (sym (append-nil h)) k.legal)
 
--- an entry more
+-- one more entry
 pub legal-one : (o : Standing) (t : List Entry) (e : Entry) → IsLegalFrom o t → MayFollowFrom o t e → IsLegalFrom o (t ++ e ∷ [])
 legal-one o t e l m = record {
   each = λ before x after is. elim (snoc_cases t e before x after is) [

@@ -9,7 +9,7 @@ use Rattle.rb_history.specs.Legal.{IsLegal, MayFollow}
 use Rattle.rb_history.proofs.Laws.{legal-next}
 use Rattle.rb_history.proofs.Lists.{sum_by-snoc}
 
--- where something was granted, the producer position is within the limit
+-- if anything was granted, the producer position is within the limit
 abbrev IsLimited : Setup → List Entry → Type 0
 IsLimited r h = 0 < sum_by granted_span h → producer_of r.start h ≤ 2 ^ 62
 

@@ -1,4 +1,4 @@
--- What one more entry changes of what a chapter stands for at its end.
+-- What one more entry changes in the summary at a chapter's end.
 use Rattle.std.proofs.Common.{◌≡◌, ◌≢◌, ◌-◌, ◌≤◌, ◌↔◌, Bool, IsTrue, ℕ, zero, suc, ◌+◌, ◌<◌, ◌^◌, cond, List, [], ◌∷◌, ◌++◌, length, map, set, refl, sym, ap, ◌∙◌, inl, inr, subst, append_assoc, add-zero, arith}
 use Rattle.std.proofs.lemmas.Bool.{cases_lt, ne_eqb}
 use Rattle.std.proofs.lemmas.List.{map-append, length-map, set-append_left, set_at}
@@ -52,7 +52,7 @@ map-set f g (suc n) w l same =
 -- ---- over a whole history
 
 module _ (r : Setup) (h : List Entry) where
-  -- an entry of the worker's alone
+  -- an entry of this worker only
   pub tallies-next : (e : Entry) (w : ℕ) → IsLegal r (h ++ e ∷ []) → w < r.workers → ((v : ℕ) → v ≢ w → tally_with v h e (tally_of v h) ≡ tally_of v h) →
       map (λ v. tally_of v (h ++ e ∷ [])) (numbers_below r.workers) ≡ set (map (λ v. tally_of v h) (numbers_below r.workers)) w (tally_of w (h ++ e ∷ []))
   tallies-next e w l low others =
@@ -109,7 +109,7 @@ module _ (r : Setup) (h : List Entry) where
 pub ends : (earlier : List Entry) (c : Chapter) → ContinuesHistory earlier c → closing_of c ≡ standing_of c.opening.setup (earlier ++ c.entries)
 ends earlier c is = ((goes-on c.opening.setup earlier c.opening is.earlier_legal is.opened c.entries).1 is.legal).stands
 
--- what is kept behind one entry more
+-- what is stored after one more entry
 pub record RunsBehind (c : Chapter) (e : Entry) (now : Standing) : Type 0 where
   pub closing_is : now ≡ closing_of (with_entry c e)
   pub owed_is : owed_for now.records ≡ owed (with_entry c e)
@@ -128,7 +128,7 @@ runs-behind earlier c e closing now f kept longer is made step =
 
 -- ---- the calls
 
--- what a chapter keeps
+-- what a chapter preserves
 pub record KeepsRunning (earlier : List Entry) (d : Chapter) (now : Standing) (owing : ℕ) : Type 0 where
   pub kept : IsKept earlier d
   pub closing_is : now ≡ closing_of d
@@ -155,7 +155,7 @@ module _ (earlier : List Entry) (c : Chapter) (kept : IsKept earlier c) (closing
       let same : length closing.records ≡ length (closing_of c).records = ap (λ (o : Standing). length o.records) is in
       omega (arith, same, records-owe (closing_of c).records, room)
 
-  -- the positions, and the room by them
+  -- the positions, and the room that they leave
   pub consumer-low : closing.consumer ≤ closing.producer
   consumer-low =
       let r = c.opening.setup in

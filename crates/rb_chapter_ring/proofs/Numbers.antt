@@ -1,4 +1,4 @@
--- What a call leaves of the ordinals of a ring's records.
+-- What a call preserves of the ordinals of a ring's records.
 use Rattle.std.proofs.Common.{◌≡◌, ℕ, zero, suc, ◌+◌, ◌<◌, List, [], ◌∷◌, ◌++◌, drop, length, length-append, length-set, get_or, set, refl, sym, ap, ◌∙◌, inl, inr, arith}
 use Rattle.std.proofs.lemmas.Bool.{cases_lt}
 use Rattle.std.proofs.lemmas.List.{get_or_append_left, get_or_push}
@@ -9,7 +9,7 @@ use Rattle.rb_chapter_ring.specs.inner.Ordinals.{HasOrdinal, KeepsOrdinals, take
 use Rattle.rb_chapter_ring.specs.declared.record_end.RecordEnd.{RecordEnd}
 use Rattle.rb_chapter_ring.specs.RecordEnds.{status_of_end}
 
--- one call after the other
+-- one call after another
 pub ordinals-on : (old mid new : Standing) → KeepsOrdinals old mid → KeepsOrdinals mid new → KeepsOrdinals old new
 ordinals-on old mid new a b = record {
   grown = omega (arith, a.grown, b.grown);
@@ -22,7 +22,7 @@ ordinals-same o = record { grown = omega arith; numbers = λ p n num low. num }
 pub ordinals-refusal : (w : ℕ) (o : Standing) → KeepsOrdinals o (with_refusal w o)
 ordinals-refusal w o = record { grown = omega arith; numbers = λ p n num low. record { index = num.index; within = num.within; here = num.here; ordinal = num.ordinal } }
 
--- ---- a record more
+-- ---- one more record
 
 module _ (w n : ℕ) (o : Standing) where
   abbrev x : Shown
@@ -75,7 +75,7 @@ settled o now i st records taken producer = record {
 pub ordinals-end : (end : RecordEnd) (i : ℕ) (o : Standing) → KeepsOrdinals o (with_end end i o)
 ordinals-end end i o = settled o (with_end end i o) i (status_of_end end) refl refl refl
 
--- ---- the record in front was taken
+-- ---- the record at the front was taken
 
 behind : (ss : List Shown) (i : ℕ) → 0 < length ss → i < length (drop 1 ss) → (suc i < length ss) × (get_or (drop 1 ss) i no_record ≡ get_or ss (suc i) no_record)
 behind [] i some low = absurd (omega (arith, some))

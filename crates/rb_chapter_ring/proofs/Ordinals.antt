@@ -1,4 +1,4 @@
--- The ordinals that stand for the hands which are out.
+-- The ordinals of the records in occupied hands.
 use Rattle.std.proofs.Common.{◌≡◌, ◌≢◌, Bool, true, false, ℕ, zero, suc, ◌+◌, ◌-◌, ◌<◌, ◌≤◌, List, [], ◌∷◌, ◌++◌, Some, length, map, replicate, get_or, set, length-set, refl, sym, ap, subst, ◌∙◌, inl, inr, get_or-set_same, get_or-set_other, arith}
 use Rattle.std.proofs.lemmas.Bool.{cases_eq, cases_lt}
 use Rattle.std.proofs.lemmas.List.{get_or-replicate, length-replicate}
@@ -31,7 +31,7 @@ use Rattle.rb_chapter_ring.proofs.HandCalls.{busy-alike}
 
 -- ---- a row of records
 
--- two records of a row have two positions
+-- two records of a row have different positions
 row-apart : (c : ℕ) (ss : List Shown) (p i j : ℕ) (d : Shown) → InRow c ss p → i < j → j < length ss → (get_or ss i d).pos < (get_or ss j d).pos
 row-apart c [] p i j d row lt low = absurd (omega (arith, low))
 row-apart c (s ∷ ss) p zero zero d row lt low = absurd (omega (arith, lt))
@@ -80,7 +80,7 @@ module _ (earlier : List Entry) (c : Chapter) (kept : IsKept earlier c) where
       let h = earlier ++ c.entries in
       subst (λ (o : Standing). HistoryFacts r h o.records o.producer o.consumer) (sym (ends earlier c kept.continues)) (kept-from-legal r h (whole-legal earlier c kept (closing_of c) refl))
 
-  -- a busy record is there
+  -- a busy record is in the list
   busy-index : (g : Granted) → IsBusyFrom c.opening c.entries g.pos g.worker g.serial (length g.bytes) → (i : ℕ) × IsBusyAt (closing_of c).records i g.pos (length g.bytes)
   busy-index g busy =
       let r = c.opening.setup in
@@ -99,7 +99,7 @@ module _ (earlier : List Entry) (c : Chapter) (kept : IsKept earlier c) where
       let same = one-index o.consumer o.records o.producer x.index y.index no_record row-facts.in_row x.within y.within (x.here ∙ sym y.here) in
       x.ordinal ∙ ap (λ i. taken_before o + i) same ∙ sym y.ordinal
 
-  -- the busy record of an ordinal stands at that less the number of those that were taken
+  -- the index of a busy record is its ordinal minus the number of records that were taken
   pub busy-at-ordinal : (g : Granted) (n : ℕ) → IsBusyFrom c.opening c.entries g.pos g.worker g.serial (length g.bytes) → HasOrdinal (closing_of c) g.pos n → (taken_before (closing_of c) ≤ n) × IsBusyAt (closing_of c).records (n - taken_before (closing_of c)) g.pos (length g.bytes)
   busy-at-ordinal g n busy num =
       let o = closing_of c in
@@ -117,12 +117,12 @@ zeros n = replicate n zero
 zeros-long : (n : ℕ) → length (zeros n) ≡ n
 zeros-long n = length-replicate n zero
 
--- a record of an out record's numbers
+-- a record with the numbers of an out record
 abbrev granted_as : ℕ → OutRecord → Granted
 granted_as w o = record { pos = o.pos; worker = w; serial = o.serial; bytes = zeros o.len }
 
 module _ (earlier : List Entry) (old new : HandRing) (ordinals : List (List ℕ)) (was_kept : IsKept earlier old.ring.chapter) (counted : HasOrdinals old ordinals) (later : List Entry) (kept : IsKept later new.ring.chapter) (has : HasHands new) (keeps : KeepsNumbers old.ring.chapter new.ring.chapter) where
-  -- what was in a hand, and is in it, has its ordinal
+  -- a record that was and still is in a hand has its ordinal
   still-numbered : (w h : ℕ) (o : OutRecord) → hand_at old.hands w h ≡ Some o → hand_at new.hands w h ≡ Some o → HasOrdinal (closing_of new.ring.chapter) o.pos (ordinal_at ordinals w h)
   still-numbered w h o was is =
       let before = closing_of old.ring.chapter in
@@ -142,7 +142,7 @@ module _ (earlier : List Entry) (old new : HandRing) (ordinals : List (List ℕ)
     numbered = λ w h o is. still-numbered w h o (out w h o is) is;
   }
 
-  -- a record was granted into a hand, and its ordinal stands for it
+  -- a record was granted into a hand, and its ordinal is stored for the hand
   pub ordinals-granted : (w h n : ℕ) (x : OutRecord) → w < old.ring.chapter.opening.setup.workers → h < 4 → new.ring.chapter.opening.setup.workers ≡ old.ring.chapter.opening.setup.workers → IsShaped old.ring.chapter.opening.setup.workers old.hands
       → new.hands ≡ with_hand old.hands w h (Some x) → HasOrdinal (closing_of new.ring.chapter) x.pos n → HasOrdinals new (set ordinals w (set (get_or ordinals w []) h n))
   ordinals-granted w h n x low four workers shaped marked number = record {
@@ -185,7 +185,7 @@ module _ (earlier : List Entry) (old new : HandRing) (ordinals : List (List ℕ)
       own_row : get_or table w [] ≡ row
       own_row = get_or-set_same ordinals w row [] here
 
--- a ring that was just opened has free hands, and any ordinals
+-- a new ring has free hands, and any ordinals
 pub opened-ordinals : (v : HandRing) (ordinals : List (List ℕ)) (workers : ℕ) → ordinals ≡ replicate workers (replicate 4 0) → v.ring.chapter.opening.setup.workers ≡ workers → ((w h : ℕ) (o : OutRecord) → hand_at v.hands w h ≡ Some o → ⊥) → HasOrdinals v ordinals
 opened-ordinals v ordinals workers are ring none = record {
   workers = ap length are ∙ length-replicate workers (zeros 4) ∙ sym ring;

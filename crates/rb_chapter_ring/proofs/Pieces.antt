@@ -1,4 +1,4 @@
--- The pieces of eight bytes of a ring, and how many records a row has.
+-- The eight-byte units of a ring, and the number of records of a row.
 use Rattle.std.proofs.Common.{◌≡◌, ℕ, ◌+◌, ◌*◌, ◌-◌, ◌/◌, ◌<◌, ◌≤◌, ◌^◌, List, [], ◌∷◌, length, map, ap, inl, inr, arith}
 use Rattle.std.specs.Int.{IsPowerOfTwo}
 use Rattle.std.proofs.lemmas.Bool.{cases_lt}
@@ -19,11 +19,11 @@ eighth size z = elim (cases_lt z.0.0 3) [
       (z.0.0 - 3, omega (arith, z.0.1, ap (λ x. 2 ^ x) split, parts))
 ]
 
--- a size is a whole number of pieces of eight bytes
+-- a size is a whole number of eight-byte units
 pub eights-in : (size : ℕ) → IsRingSize size → (m : ℕ) × (size ≡ 8 * m)
 eights-in size z = let e = eighth size z in (2 ^ e.0, e.1)
 
--- the pieces are a power of two
+-- the number of units is a power of two
 pub eighth-power : (size : ℕ) → IsRingSize size → IsPowerOfTwo (size / 8)
 eighth-power size z = let e = eighth size z in (e.0, omega (arith, e.1))
 

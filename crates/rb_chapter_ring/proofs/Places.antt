@@ -1,4 +1,4 @@
--- The records behind those that were taken.
+-- The records after those that were taken.
 use Rattle.std.proofs.Common.{◌≡◌, ℕ, zero, suc, ◌+◌, ◌<◌, List, [], ◌∷◌, length, map, drop, get_or, set, refl, ap, arith}
 use Rattle.rb_chapter_ring.specs.declared.standing.UntakenRecord.{UntakenRecord}
 use Rattle.rb_chapter_ring.specs.declared.standing.UntakenStatus.{UntakenStatus}

@@ -1,4 +1,4 @@
--- The room that a chapter owes is kept.
+-- The room that a chapter owes is preserved.
 use Rattle.std.proofs.Common.{◌≡◌, ℕ, ◌+◌, ◌≤◌, ◌↔◌, Bool, true, false, ◌||◌, List, [], ◌∷◌, ◌++◌, length, refl, sym, ap, ◌∙◌, subst, append_assoc, append-nil, length-append, arith}
 use Rattle.std.proofs.lemmas.Bool.{true≢false}
 use Rattle.rb_history.specs.declared.entries.Entry.{Entry}
@@ -50,7 +50,7 @@ room-step r h (Sub p) u m l f room = omega (arith, room, weigh-sub entries_owed 
 room-step r h (Dis p) u m l f room = omega (arith, room, weigh-dis entries_owed r h (kept-from-legal r h l) p f)
 room-step r h (Take p) u m l f room = omega (arith, room, weigh-take entries_owed r h (kept-from-legal r h l) p f, one-owed (is_submitted_at h p) (is_discarded_at h p) f.1)
 
--- and back
+-- the converse
 room-unstep : (r : Setup) (h : List Entry) (e : Entry) (u m : ℕ) → IsLegal r h → MayFollow r h e → u + 1 + owed_for (records (h ++ e ∷ [])) ≤ m → Asked (u + owed_for (records h)) m e
 room-unstep r h (Full w n) u m l f room = omega (arith, room, weigh-full entries_owed r h (kept-from-legal r h l) w n)
 room-unstep r h (Res w s n p) u m l f room = omega (arith, room, weigh-res entries_owed r h (kept-from-legal r h l) w s n p f)
@@ -87,7 +87,7 @@ no_entry (b ∷ bs) e after is = cc
 pub none-legal : (o : Standing) (t : List Entry) → t ≡ [] → IsLegalFrom o t
 none-legal o t none = record { each = λ before e after is. absurd (no_entry before e after (sym none ∙ is)) }
 
--- a chapter that meets one with a earlier goes on from the longer earlier
+-- a chapter that meets one which continues `earlier` continues `earlier` with that chapter's entries
 module _ (earlier : List Entry) (c d : Chapter) (is : ContinuesHistory earlier c) (meets : Meets c d) (none : d.entries ≡ []) where
   longer-legal : IsLegal c.opening.setup (earlier ++ c.entries)
   longer-legal = (goes-on c.opening.setup earlier c.opening is.earlier_legal is.opened c.entries).0.0 is.legal

@@ -1,4 +1,4 @@
--- What holds of a ring's parts.
+-- Facts about a ring's parts.
 use Rattle.std.proofs.Common.{List, ◌++◌, map, refl, sym, subst}
 use Rattle.rb_history.specs.declared.entries.Entry.{Entry}
 use Rattle.rb_history.specs.declared.answers.Counts.{Counts}
@@ -19,7 +19,7 @@ use Rattle.rb_chapter_ring.proofs.Stands.{goes-on}
 use Rattle.rb_chapter_ring.specs.inner.ChapterRingBody.{IsRingOf, ring_of}
 
 module _ (earlier : List Entry) (c : Chapter) (stored : List StoredRecord) (counts : Counts) (g : IsRingOf earlier c stored counts) where
-  -- all that the ring ever did
+  -- the whole history
   pub legal : IsLegal c.opening.setup (earlier ++ c.entries)
   legal = whole-legal earlier c g.kept (closing_of c) refl
 

@@ -1,4 +1,4 @@
--- What a chapter keeps beside its entries.
+-- What a chapter stores beside its entries.
 use Rattle.std.proofs.Common.{◌≡◌, ◌+◌, ◌≤◌, ◌↔◌, Bool, IsTrue, List, [], ◌∷◌, ◌++◌, length, refl, sym, ap, ◌∙◌, append-nil, arith}
 use Rattle.rb_history.specs.declared.entries.Entry.{Entry}
 use Rattle.rb_history.specs.History.{Shown, Status}
@@ -13,13 +13,13 @@ use Rattle.rb_chapter_ring.specs.WholeHistory.{ContinuesHistory, IsKept}
 use Rattle.rb_chapter_ring.proofs.Stands.{goes-on}
 use Rattle.rb_chapter_ring.proofs.Room.{next-room}
 
--- without entries it stands for what it began with
+-- without entries, the summary at its end is its opening
 pub closing-none : (earlier : List Entry) (c : Chapter) → ContinuesHistory earlier c → c.entries ≡ [] → closing_of c ≡ c.opening
 closing-none earlier c is none =
     let ends = ((goes-on c.opening.setup earlier c.opening is.earlier_legal is.opened c.entries).1 is.legal).stands in
     ends ∙ ap (λ t. standing_of c.opening.setup (earlier ++ t)) none ∙ ap (standing_of c.opening.setup) (append-nil earlier) ∙ sym is.opened
 
--- each record owes an entry at least
+-- each record owes at least one entry
 pub records-owe : (ss : List Shown) → length ss ≤ owed_for ss
 records-owe [] = omega arith
 records-owe (s ∷ ss) = omega (arith, records-owe ss, sum_by-cons (λ (s : Shown). entries_owed s.status) s ss, one s.status)
@@ -34,7 +34,7 @@ records-owe (s ∷ ss) = omega (arith, records-owe ss, sum_by-cons (λ (s : Show
 pub owed-none : (c : Chapter) (o : Standing) → closing_of c ≡ o → o.records ≡ [] → 0 ≡ owed c
 owed-none c o is none = sym (ap (λ (x : Standing). owed_for x.records) is ∙ ap owed_for none)
 
--- what is kept beside no entries
+-- what is stored for a chapter without entries
 pub record RunsFromNone (c : Chapter) (closing : Standing) : Type 0 where
   pub closing_is : closing ≡ closing_of c
   pub owed_is : 0 ≡ owed c
@@ -44,7 +44,8 @@ runs-from-none earlier c closing r kept none opened is =
     let ends = closing-none earlier c kept.continues none in
     record { closing_is = is ∙ sym opened ∙ sym ends; owed_is = owed-none c (empty_ring r) (ends ∙ opened) refl }
 
--- the chapters meet exactly where the numbers follow and the later one begins with what the earlier one keeps
+-- the chapters meet if and only if their numbers are consecutive and the later one opens with the summary that the
+-- earlier one stores
 pub meets-exact : (c d : Chapter) (b : Bool) (closing : Standing) → closing ≡ closing_of c → IsTrue b ↔ (closing ≡ d.opening) → d.number ≡ c.number + 1 → IsTrue b ↔ Meets c d
 meets-exact c d b closing is same next = (
   (λ t. record { next_number = next; goes_on = sym (same.0 t) ∙ is }),
@@ -53,13 +54,13 @@ meets-exact c d b closing is same next = (
 
 -- ---- the next chapter
 
--- its opening's records are as many as there is room for
+-- there is room for its opening's records
 pub closing-fits : (earlier : List Entry) (c : Chapter) (closing : Standing) → IsKept earlier c → closing ≡ closing_of c → length closing.records ≤ c.room
 closing-fits earlier c closing kept is =
     let same : length closing.records ≡ length (closing_of c).records = ap (λ (o : Standing). length o.records) is in
     omega (arith, same, records-owe (closing_of c).records, kept.room)
 
--- what is kept in a chapter that meets c
+-- what is stored in a chapter that meets c
 pub record RunsOn (earlier : List Entry) (c d : Chapter) (closing : Standing) : Type 0 where
   pub kept : IsKept (earlier ++ c.entries) d
   pub closing_is : closing ≡ closing_of d

@@ -1,4 +1,4 @@
--- What is counted from an opening is what the whole history says.
+-- What is counted from an opening agrees with the whole history.
 use Rattle.std.proofs.Common.{◌≡◌, ℕ, ◌+◌, Bool, true, false, cond, ◌||◌, List, ◌++◌, Some, None, refl, sym, ap, ◌∙◌, arith}
 use Rattle.std.specs.List.{sum_by, count_by, All}
 use Rattle.std.proofs.lemmas.Bool.{or_left, or_right}
@@ -24,7 +24,7 @@ use Rattle.rb_chapter_ring.proofs.From.{GoesFrom, TakesIn, all-takes, taken-low,
 abbrev bit : Bool → ℕ
 bit b = cond b 1 0
 
--- ---- where h is legal, and the entries b name nothing that h took
+-- ---- h is legal, and the entries b name nothing that h took
 
 module _ (r : Setup) (h : List Entry) (k : KeptAs r h) (never : NeverBoth h) (b : List Entry) where
   o : Standing
@@ -117,9 +117,9 @@ module _ (r : Setup) (h : List Entry) (k : KeptAs r h) (never : NeverBoth h) (b 
         let new = filter_map-where (GoesFrom h (producer_of r.start h)) (untaken b) (untaken (h ++ b)) new-entry b from in
         sym (filter_map-append (untaken (h ++ b)) h b ∙ (λ i. old i ++ new i))
 
-    -- ---- numbers
+    -- ---- totals
 
-    -- a settled record of h is granted there
+    -- a committed record of h is granted there
     old-submit : (w : ℕ) (e : Entry) → NamesBelow (producer_of r.start h) e → bit (is_submit_of w (h ++ b) e) ≡ bit (is_submit_of w h e)
     old-submit w (Sub q) lt = ap bit (list_any-append (is_grant_to w q) h b ∙ ap (λ x. is_record_of w h q || x) (worker-none r h k b from q lt w) ∙ or-false _)
     old-submit w (Res v s n q) lt = refl

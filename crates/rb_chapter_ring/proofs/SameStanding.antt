@@ -1,4 +1,4 @@
--- Two openings say the same exactly where their fields are the same.
+-- Two openings have the same contents if and only if their fields are equal.
 use Rattle.std.proofs.Common.{◌≡◌, List, [], ◌∷◌, drop, map, refl, ap}
 use Rattle.rb_history.specs.History.{Shown}
 use Rattle.rb_chapter_ring.specs.declared.standing.UntakenRecord.{UntakenRecord}

@@ -1,4 +1,4 @@
--- A busy record comes to its end.
+-- A busy record is committed.
 use Rattle.std.proofs.Common.{◌≡◌, ℕ, zero, suc, ◌-◌, ◌%◌, ◌<◌, List, [], ◌∷◌, ◌++◌, length, map, get_or, set, length-set, refl, sym, ap, ◌∙◌, subst, arith}
 use Rattle.std.specs.FinMap.{insert}
 use Rattle.std.proofs.lemmas.List.Elements.{All-set}
@@ -31,7 +31,7 @@ use Rattle.rb_chapter_ring.proofs.CountSteps.{counting_end, counts-end}
 use Rattle.rb_chapter_ring.proofs.Keeps.{longer-legal, keeps}
 use Rattle.rb_chapter_ring.proofs.Rows.{rows}
 
--- its state then
+-- its state afterwards
 abbrev pub state_of_end : RecordEnd → List ℕ → RecordState
 state_of_end Submit bytes = Submitted bytes
 state_of_end Discard bytes = DiscardedState
@@ -104,7 +104,7 @@ module _ (earlier : List Entry) (c : Chapter) (stored : List StoredRecord) (coun
   contents-end Submit bytes = contents-send c.opening.setup (earlier ++ c.entries) stored i t pos n (closing_of c).producer (closing_of c).consumer busy (rows earlier c stored counts g) bytes
   contents-end Discard bytes = contents-drop c.opening.setup (earlier ++ c.entries) stored i t pos n (closing_of c).producer (closing_of c).consumer busy (rows earlier c stored counts g)
 
--- the call, by the entry that was logged and the bytes that were kept
+-- the call, from the entry that was logged and the bytes that were stored
 pub ends-by : (end : RecordEnd) (old new : ChapterRing) (r : Granted) (pos : ℕ) (bytes : List ℕ) → pos ≡ r.pos → bytes ≡ r.bytes → HoldsReservationFrom old r → LogsByChapter old new (entry_of_end end pos ∷ []) → new.contents ≡ contents_with_end end pos bytes old.contents → Ends end r old new
 ends-by Submit old new r pos bytes at is busy logged contents = record { was_busy = busy; logged = subst (λ p. LogsByChapter old new (Sub p ∷ [])) at logged; contents_are = contents ∙ (λ i. insert old.contents (at i) (is i)) }
 ends-by Discard old new r pos bytes at is busy logged contents = record { was_busy = busy; logged = subst (λ p. LogsByChapter old new (Dis p ∷ [])) at logged; contents_same = contents }

@@ -1,4 +1,4 @@
--- What the end of a record, and its take, change of what a chapter stands for at its end.
+-- What the commit of a record, and its take, change in the summary at a chapter's end.
 use Rattle.std.proofs.Common.{◌≡◌, ◌≢◌, ℕ, ◌+◌, ◌-◌, ◌<◌, ◌≤◌, ◌^◌, Bool, true, false, ◌||◌, cond, List, [], ◌∷◌, ◌++◌, length, get_or, set, drop, refl, sym, ap, ◌∙◌, subst, append_assoc, add-zero, arith}
 use Rattle.std.proofs.lemmas.Bool.{false_from_ne_true, true≢false}
 use Rattle.rb_history.specs.Span.{span}
@@ -111,7 +111,7 @@ module _ (r : Setup) (h : List Entry) (l : IsLegal r h) (i : ℕ) (within : i < 
       let takes = end-takes end in
       λ j. record { setup = r; producer = producer j; consumer = consumer j; records = rows j; tallies = tallies j; consumed = takes.0 j; skipped = takes.1 j }
 
--- what a status says of the take of its record
+-- what a status determines about the take of its record
 take-bits : (s d : Bool) → (s ≡ true → d ≡ false) → (status_by s d false ≡ Busy → ⊥) → (cond s 1 0 ≡ events_by (status_by s d false)) × (cond d 1 0 ≡ skips_by (status_by s d false))
 take-bits true true never free = absurd (true≢false (never refl))
 take-bits true false never free = (refl, refl)
@@ -123,7 +123,7 @@ settled-by true d free = refl
 settled-by false true free = refl
 settled-by false false free = absurd (free refl)
 
--- the opening behind a take, where the records are known
+-- the opening after a take, if the records are known
 pub record TakesFront (r : Setup) (h : List Entry) (ss : List Shown) : Type 0 where
   pub legal : IsLegal r (h ++ Take (consumer_of r.start h) ∷ [])
   pub next : standing_of r (h ++ Take (consumer_of r.start h) ∷ []) ≡ with_take (record (standing_of r h) { records = ss })
@@ -161,7 +161,7 @@ module _ (r : Setup) (h : List Entry) (l : IsLegal r h) where
   pub take-front : 0 < length (records h) → (get_or (records h) 0 no_record).status ≢ Busy → TakesFront r h (records h)
   take-front some free = takes-from (records h) (kept-from-legal r h l) some free
 
--- ---- the numbers behind a take
+-- ---- the numbers after a take
 
 by-most : (st : Status) → events_by st + skips_by st ≤ 1
 by-most Busy = omega arith
@@ -230,7 +230,7 @@ module _ (earlier : List Entry) (c : Chapter) (kept : IsKept earlier c) (closing
     pub worker-fits : (record_in closing i).worker < closing.setup.workers
     worker-fits = subst (λ (o : Standing). (record_in o i).worker < o.setup.workers) (sym at-end) (worker-low c.opening.setup whole whole-legal i within held)
 
-    -- the worker settled no more than it was granted, and so few that the totals fit
+    -- the worker committed at most as many records as it was granted, so few that the totals fit
     pub few : (tally_at closing (record_in closing i).worker).submitted + (tally_at closing (record_in closing i).worker).discarded < 2 ^ 62
     few =
         let r = c.opening.setup in
@@ -244,7 +244,7 @@ module _ (earlier : List Entry) (c : Chapter) (kept : IsKept earlier c) (closing
         let low = spans-low r whole whole-legal in
         omega (arith, submitted, discarded, most, granted, low)
 
-    -- its take is still owed, and for its end there is room
+    -- its take is still owed, and there is room for its commit
     owes-one : (end : RecordEnd) → entries_owed (status_of_end end) ≡ 1
     owes-one Submit = refl
     owes-one Discard = refl

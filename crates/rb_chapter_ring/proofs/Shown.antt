@@ -1,4 +1,4 @@
--- What the records of an opening say of a position that no entry before took.
+-- What the records of an opening say about a position that no earlier entry took.
 use Rattle.std.proofs.Common.{◌≡◌, ℕ, ◌==◌, Bool, true, false, cond, ◌&&◌, List, Some, None, refl, sym, ap, ◌∙◌, inl, inr}
 use Rattle.std.specs.List.{list_any, sum_by}
 use Rattle.std.proofs.lemmas.Bool.{cases_eq, ne_eqb, true≢false, cases_Bool}
@@ -115,7 +115,7 @@ module _ (h : List Entry) (p : ℕ) (free : is_taken_at h p ≡ false) where
   pub span-shown : span_of_record h p ≡ sum_by (shown_span_at p) (records h)
   span-shown = sum_by-only (granted_span_at p) (untaken h) (shown_span_at p) span-entry h
 
--- no record of the opening stands where one was taken
+-- the opening has no record at a position that was taken
 pub not-shown : (h : List Entry) (p : ℕ) → list_any (shows_at p) (records h) ≡ true → is_taken_at h p ≡ false
 not-shown h p is = elim (cases_Bool (is_taken_at h p)) [
   | inl t ↦ absurd (true≢false (sym is ∙ list_any_none (shows_at p) (records h) (All-weaker (Named h h) (λ s. shows_at p s ≡ false)

@@ -1,4 +1,4 @@
--- The slots of records, which go round.
+-- The slots of records, which are a circular buffer.
 use Rattle.std.proofs.Common.{◌≡◌, ◌≢◌, ℕ, zero, suc, ◌+◌, ◌*◌, ◌/◌, ◌%◌, ◌<◌, ◌≤◌, List, [], ◌∷◌, ◌++◌, length, get_or, set, refl, sym, ap, ◌∙◌, inl, inr, arith}
 use Rattle.std.proofs.Math.Nat.{mul-le-mul_left}
 use Rattle.std.proofs.lemmas.Bool.{cases_lt}
@@ -10,11 +10,11 @@ use Rattle.rb_history.specs.History.Status.{Waiting, Discarded}
 use Rattle.rb_chapter_ring.specs.Standing.{no_record}
 use Rattle.rb_chapter_ring.specs.inner.ChapterRingBody.{stored_at, stored_from}
 
--- worked rows of eight slots: they go round
+-- worked examples with eight slots, which wrap around
 slots-go-round : ◌≡◌ {A = ℕ} (7 % 8) 7 × ◌≡◌ {A = ℕ} (8 % 8) 0 × ◌≡◌ {A = ℕ} (17 % 8) 1
 slots-go-round = (refl, refl, refl)
 
--- two numbers less than the slots apart have two slots
+-- two numbers that differ by less than the number of slots have different slots
 slots-apart : (m p q : ℕ) → p < q → q < p + m → p % m ≡ q % m → ⊥
 slots-apart m p q lt near same = elim (cases_lt (p / m) (q / m)) [
   | inl more ↦ let step : m * (p / m + 1) ≤ m * (q / m) = mul-le-mul_left m (omega arith) in omega (arith, step)
@@ -27,14 +27,14 @@ stored-here m sheets n [] i d l = absurd (omega arith)
 stored-here m sheets n (s ∷ ss) zero d l = let same : n + zero ≡ n = omega arith in rw same refl
 stored-here m sheets n (s ∷ ss) (suc i) d l = let next : n + suc i ≡ n + 1 + i = omega arith in rw next (stored-here m sheets (n + 1) ss i d (omega arith))
 
--- one record more
+-- one more record
 pub stored-push : (m : ℕ) (sheets : List (List ℕ)) (n : ℕ) (ss : List Shown) (s : Shown) → stored_from m sheets n (ss ++ s ∷ []) ≡ stored_from m sheets n ss ++ stored_at s (get_or sheets ((n + length ss) % m) []) ∷ []
 stored-push m sheets n [] s = let same : n + zero ≡ n = omega arith in rw same refl
 stored-push m sheets n (x ∷ ss) s =
     let next : n + suc (length ss) ≡ n + 1 + length ss = omega arith in
     rw next (ap (λ ts. stored_at x (get_or sheets (n % m) []) ∷ ts) (stored-push m sheets (n + 1) ss s))
 
--- a slot of none of the records has other bytes
+-- a slot that belongs to none of the records has other bytes
 pub stored-elsewhere : (m : ℕ) (sheets : List (List ℕ)) (k : ℕ) (bytes : List ℕ) (n : ℕ) (ss : List Shown) → ((j : ℕ) → j < length ss → (n + j) % m ≢ k) → stored_from m (set sheets k bytes) n ss ≡ stored_from m sheets n ss
 stored-elsewhere m sheets k bytes n [] other = refl
 stored-elsewhere m sheets k bytes n (s ∷ ss) other =
@@ -42,7 +42,7 @@ stored-elsewhere m sheets k bytes n (s ∷ ss) other =
     let rest = stored-elsewhere m sheets k bytes (n + 1) ss (λ j l e. other (suc j) (omega arith) (ap (λ x. x % m) (omega arith) ∙ e)) in
     λ i. stored_at s (own i) ∷ rest i
 
--- the record in front leaves its slot to others
+-- the record at the front leaves its slot
 pub stored-behind : (m : ℕ) (sheets : List (List ℕ)) (bytes : List ℕ) (n : ℕ) (ss : List Shown) → length ss < m → stored_from m (set sheets (n % m) bytes) (n + 1) ss ≡ stored_from m sheets (n + 1) ss
 stored-behind m sheets bytes n ss few = stored-elsewhere m sheets (n % m) bytes (n + 1) ss (λ j l e. slots-apart m n (n + 1 + j) (omega arith) (omega arith) (sym e))
 

@@ -26,12 +26,12 @@ use Rattle.rb_chapter_ring.proofs.Grants.{newest, grant, few, refusal-closing, g
 use Rattle.rb_chapter_ring.proofs.Settles.{state_of_end, within-now, end-closing}
 use Rattle.rb_chapter_ring.proofs.TakesOne.{next, take-closing, one-more}
 
--- there are as many slots as before
+-- the number of slots does not change
 pub slots-long : (end : RecordEnd) (k : ℕ) (bytes : List ℕ) (sheets : List (List ℕ)) → length (slots_with_end end k bytes sheets) ≡ length sheets
 slots-long Submit k bytes sheets = length-set sheets k bytes
 slots-long Discard k bytes sheets = refl
 
--- a record in front of the others
+-- a record before the others
 pub in-front : (ss : List Shown) → 0 < length ss → ss ≡ get_or ss 0 no_record ∷ drop 1 ss
 in-front [] l = absurd (omega arith)
 in-front (s ∷ ss) l = refl
@@ -72,7 +72,7 @@ module _ (earlier : List Entry) (c : Chapter) (sheets : List (List ℕ)) (counts
         ∙ ap (λ o. stored_in o sheets) (end-closing earlier c (stored_of c sheets) counts g i pos n at busy_now busy-there Discard)
 
   module _ (some : 0 < length (closing_of c).records) where
-    -- the record at the front, and those behind it
+    -- the record at the front, and those after it
     abbrev pub front : StoredRecord
     front = stored_at (record_in (closing_of c) 0) (get_or sheets (taken_before (closing_of c) % length sheets) [])
 

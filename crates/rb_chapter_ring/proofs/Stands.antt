@@ -1,4 +1,4 @@
--- What entries stand for from an opening is what the whole history stands for.
+-- The summary of entries from an opening is the summary of the whole history.
 use Rattle.std.proofs.Common.{◌≡◌, ℕ, ◌+◌, ◌<◌, cond, ◌↔◌, List, ◌++◌, refl, sym, ap, ◌∙◌, subst}
 use Rattle.std.specs.List.{count_by, All}
 use Rattle.std.proofs.lemmas.List.Sums.{sum_by-append}
@@ -46,7 +46,7 @@ module _ (r : Setup) (h : List Entry) (k : KeptAs r h) (never : NeverBoth h) (t 
   pub queries : (q : ℕ) → query_answer_from (standing_of r h) t q ≡ query_answer r (h ++ t) q
   queries q = rw (producer-same r h k never t, consumer-same r h k never t from) refl
 
--- ---- where h is legal
+-- ---- h is legal
 
 module _ (r : Setup) (h : List Entry) (l : IsLegal r h) (t : List Entry) where
   pub both-ways : IsLegalFrom (standing_of r h) t ↔ IsLegal r (h ++ t)

@@ -1,4 +1,4 @@
--- What the calls of a ring with hands keep of its book, and of the ordinals beside it.
+-- What the calls of a ring with hands preserve of its book, and of the ordinals beside it.
 use Rattle.std.proofs.Common.{◌≡◌, ℕ, ◌-◌, ◌<◌, ◌≤◌, List, [], ◌∷◌, ◌++◌, Some, None, length, length-set, replicate, get_or, set, Result, Ok, Err, inl, inr, refl, sym, ap, subst, ◌∙◌, arith}
 use Rattle.std.specs.Prelude.{IfErr, IfOk, OnErr, OnOk}
 use Rattle.rb_history.specs.RoomRule.{Setup}
@@ -31,7 +31,7 @@ use Rattle.rb_chapter_ring.proofs.BusyEntries.{in-ring, below-four}
 use Rattle.rb_chapter_ring.proofs.FourHands.{book-begins-free}
 use Rattle.rb_chapter_ring.proofs.HandCalls.{in-hand-is-busy, whole-legal, to-whole, keep-hands}
 
--- what is out is of a worker of the ring, and in one of its four hands
+-- an occupied hand belongs to a worker of the ring, and is one of its four
 pub record IsBelow (v : HandRing) (hand w : ℕ) : Type 0 where
   pub worker : w < v.ring.chapter.opening.setup.workers
   pub four : hand < 4
@@ -44,7 +44,7 @@ out-below earlier v kept has hand r at =
     let low = in-ring v.ring.chapter.opening.setup _ v.hands legal has.shaped is r.worker r.serial (length r.bytes) r.pos b.granted_is in
     record { worker = low; four = below-four v.ring.chapter.opening.setup _ v.hands legal has.shaped is r.worker hand (out_record r.pos r.serial (length r.bytes)) low at }
 
--- what is out is found by the ordinal beside its hand
+-- a record in a hand is found by the ordinal that is stored for its hand
 pub found-by-ordinal : (earlier : List Entry) (v : HandRing) (ordinals : List (List ℕ)) → IsKept earlier v.ring.chapter → StandsForChapter v.ring → IsHandState v ordinals → (hand : ℕ) (r : Granted) → HasInHand v hand r
     → (w : ℕ) (row : List ℕ) (taken : ℕ) → w ≡ r.worker → row ≡ get_or ordinals w row → taken ≡ taken_before (closing_of v.ring.chapter) → (taken ≤ get_or row hand 0) × IsBusyAt v.ring.shown (get_or row hand 0 - taken) r.pos (length r.bytes)
 found-by-ordinal earlier v ordinals kept stands state hand r out w row taken mine row_is taken_is =
@@ -58,7 +58,7 @@ found-by-ordinal earlier v ordinals kept stands state hand r out w row taken min
           (subst (λ n. IsBusyAt (closing_of v.ring.chapter).records n r.pos (length r.bytes)) (sym (λ i. number i - taken_is i)) there.1),
     )
 
--- the end of a record that was in a hand
+-- the commit of a record that was in a hand
 pub ends-from : (end : RecordEnd) (old new : HandRing) (hand : ℕ) (r : Granted) → HasInHand old hand r → Ends end r old.ring new.ring → new.hands ≡ with_hand old.hands r.worker hand None → EndsFromHand end hand r old new
 ends-from Submit old new hand r out ends freed = record { was_out = out; submits = ends; freed = freed }
 ends-from Discard old new hand r out ends freed = record { was_out = out; discards = ends; freed = freed }
@@ -83,7 +83,7 @@ module _ (earlier : List Entry) (old new : HandRing) (kept : IsKept earlier old.
   handed-keeps : (out : Chapter) → HandsOut old.ring new.ring out → new.hands ≡ old.hands → HasHands new
   handed-keeps = (keep-hands earlier old new kept has).hands_out
 
-  -- by the answer of an output, and of a chapter that is handed in
+  -- by the result of an output, and of handing out a chapter
   output-answered : (w : ℕ) (bytes : List ℕ) → w < old.ring.chapter.opening.setup.workers → (answer : Result Notice (ReserveFault × List ℕ)) → OnOk answer (OutputsByChapter old.ring new.ring w bytes)
       → IfErr answer (λ e. RefusesInChapter old.ring new.ring w (length bytes) e.0) → new.hands ≡ old.hands → HasHands new
   output-answered w bytes low (Ok _) made refused same = output-keeps w bytes low made same
@@ -93,7 +93,7 @@ module _ (earlier : List Entry) (old new : HandRing) (kept : IsKept earlier old.
   handing-answered (Ok out) handed unchanged same = handed-keeps out handed same
   handing-answered (Err back) handed unchanged same = subst HasHands (λ i. hand_ring (sym unchanged i) (sym same i)) has
 
--- so do many takes
+-- many takes do, too
 many-keep : (earlier : List Entry) (old new : ChapterRing) (book : HandBook) (ts : List Taken) → IsKept earlier old.chapter → HasHands (hand_ring old book) → TakesEachInChapter old ts new → HasHands (hand_ring new book)
 many-keep earlier old new book [] kept has same = subst (λ r. HasHands (hand_ring r book)) (sym same) has
 many-keep earlier old new book (t ∷ ts) kept has each =
@@ -103,7 +103,7 @@ many-kept : (earlier : List Entry) (old new : ChapterRing) (ts : List Taken) →
 many-kept earlier old new [] kept same = subst (λ (r : ChapterRing). IsKept earlier r.chapter) (sym same) kept
 many-kept earlier old new (t ∷ ts) kept each = many-kept earlier each.0 new ts ((calls-keep earlier old each.0 kept).takes t each.1) each.3
 
--- ---- and their ordinals
+-- ---- the ordinals
 
 refused-kept : (earlier : List Entry) (old new : ChapterRing) → IsKept earlier old.chapter → (w n : ℕ) → w < old.chapter.opening.setup.workers → (f : ReserveFault) → RefusesInChapter old new w n f → IsKept earlier new.chapter
 refused-kept earlier old new kept w n low Full a = (calls-keep earlier old new kept).finds_full w n low a
@@ -113,7 +113,7 @@ refused-kept earlier old new kept w n low Foreign a = absurd a
 refused-kept earlier old new kept w n low HandsFull a = absurd a
 
 module _ (earlier : List Entry) (old new : HandRing) (ordinals : List (List ℕ)) (kept : IsKept earlier old.ring.chapter) (state : IsHandState old ordinals) (keeps : KeepsNumbers old.ring.chapter new.ring.chapter) where
-  -- there are as many workers as before
+  -- the number of workers does not change
   as-many : HasHands new → length new.hands ≡ length old.hands → new.ring.chapter.opening.setup.workers ≡ old.ring.chapter.opening.setup.workers
   as-many has long = sym has.shaped.each_worker ∙ long ∙ state.has.shaped.each_worker
 
@@ -164,7 +164,7 @@ module _ (earlier : List Entry) (old new : HandRing) (ordinals : List (List ℕ)
   handing-holds (Ok out) handed unchanged same = stays (earlier ++ out.entries) ((calls-keep earlier old.ring new.ring kept).hands_out out handed) (handed-keeps earlier old new kept state.has out handed same) same
   handing-holds (Err back) handed unchanged same = stays earlier (subst (λ (r : ChapterRing). IsKept earlier r.chapter) (sym unchanged) kept) (handing-answered earlier old new kept state.has (Err back) handed unchanged same) same
 
--- a ring that was just opened has free hands
+-- a new ring has free hands
 opened-has : (room : ℕ) (r : Setup) → HasHands (hand_ring (opened_ring room r) (free_book r.workers))
 opened-has room r =
     let begins = book-begins-free r.workers in

@@ -47,12 +47,12 @@ waits-by Reserved st e = rw e refl
 waits-by (Submitted b) st e = rw e refl
 waits-by DiscardedState st e = rw e refl
 
--- a take by the whole history is the take by the chapter
+-- a take over the whole history is the take by the chapter
 by-chapter : (earlier : List Entry) (c : Chapter) (stored : List StoredRecord) (counts : Counts) (g : IsRingOf earlier c stored counts) (new : ChapterRing) (t : Taken) → IsSameChapter (ring_of c stored) new
     → WholeTakes (whole_ring earlier (ring_of c stored)) (whole_ring earlier new) t → TakesByChapter (ring_of c stored) new t
 by-chapter earlier c stored counts g new t same whole = ((calls-alike earlier (ring_of c stored) new g.kept.continues).takes t).1 (same, whole)
 
--- which answer it is
+-- which result it is
 exact-front : (earlier : List Entry) (c : Chapter) (stored : List StoredRecord) (counts : Counts) (g : IsRingOf earlier c stored counts) (new : ChapterRing) (t : Taken)
     → WholeTakes (whole_ring earlier (ring_of c stored)) (whole_ring earlier new) t → ((t ≡ BusyFront) ↔ HasBusyFrontByChapter (ring_of c stored)) × ((t ≡ Empty) ↔ AllTakenByChapter (ring_of c stored))
 exact-front earlier c stored counts g new t whole =
@@ -64,7 +64,7 @@ exact-front earlier c stored counts g new t whole =
     let empty = exact-empty r h stored (closing_of c).producer (closing_of c).consumer k (whole_ring earlier new) t whole in
     (((λ e. alike.busy_front.1 (busy.0 e)), (λ b. busy.1 (alike.busy_front.0 b))), ((λ e. alike.all_taken.1 (empty.0 e)), (λ b. empty.1 (alike.all_taken.0 b))))
 
--- the answer, and which one it is
+-- the result, and which one it is
 pub record TakesAs (old new : ChapterRing) (t : Taken) : Type 0 where
   pub takes : TakesByChapter old new t
   pub busy_front : (t ≡ BusyFront) ↔ HasBusyFrontByChapter old
@@ -113,7 +113,7 @@ module _ (earlier : List Entry) (c : Chapter) (stored : List StoredRecord) (coun
         let row : InRow (closing_of c).consumer (map shown_record (t ∷ after)) (closing_of c).producer = subst (λ ss. InRow (closing_of c).consumer (map shown_record ss) (closing_of c).producer) split (rows earlier c stored counts g).in_row in
         row.0
 
-    -- the take in the words of the whole history
+    -- the take, in terms of the whole history
     taking : Taking (earlier ++ c.entries) stored after t (closing_of c).consumer ((earlier ++ c.entries) ++ entry ∷ []) ((closing_of c).consumer + span t.len)
     taking = record { split = split; history_is = ap (λ p. (earlier ++ c.entries) ++ Take p ∷ []) (sym front-pos); consumer_is = refl; free = free }
 
@@ -154,7 +154,7 @@ module _ (earlier : List Entry) (c : Chapter) (stored : List StoredRecord) (coun
         let whole = takes-front r h stored after t (closing_of c).producer (closing_of c).consumer ((earlier ++ c.entries) ++ entry ∷ []) ((closing_of c).consumer + span t.len) taking g.sized (rows earlier c stored counts g) in
         as-taken (ring_of next after) (taken_of t t.state) refl (settled-whole t.state whole)
       where
-        -- only the history and the contents count
+        -- only the history and the contents matter
         settled-whole : (a : RecordState) → WholeTakes (whole_ring earlier (ring_of c stored)) (ring_with c.opening.setup ((earlier ++ c.entries) ++ entry ∷ []) after (closing_of c).producer ((closing_of c).consumer + span t.len)) (taken_of t a)
             → WholeTakes (whole_ring earlier (ring_of c stored)) (whole_ring earlier (ring_of next after)) (taken_of t a)
         settled-whole Reserved w = record { front = w.front; granted_is = w.granted_is; discarded = w.discarded; logged = record { setup_same = refl; history_is = sym (append_assoc earlier c.entries (entry ∷ [])) ∙ w.logged.history_is }; contents_same = w.contents_same }

@@ -1,4 +1,4 @@
--- The six counts follow from two of them and from what the chapter stands for at its end.
+-- The six counts follow from two of them and from the summary at the chapter's end.
 use Rattle.std.proofs.Common.{◌≡◌, ℕ, ◌+◌, ◌-◌, ◌<◌, ◌≤◌, ◌^◌, List, [], ◌∷◌, ◌++◌, length, refl, sym, ap, ◌∙◌, arith}
 use Rattle.rb_history.specs.declared.entries.Entry.{Entry}
 use Rattle.rb_history.specs.declared.answers.Counts.{Counts}
@@ -18,7 +18,7 @@ use Rattle.rb_chapter_ring.specs.inner.ChapterRingBody.{IsRingOf}
 use Rattle.rb_chapter_ring.proofs.CountSteps.{bit, countable}
 use Rattle.rb_chapter_ring.proofs.Rows.{legal, said}
 
--- a busy record owes one entry more than each other
+-- a busy record owes one entry more than any other
 owes-busy : (ss : List Shown) → owed_for ss ≡ length ss + shown_count Busy ss
 owes-busy [] = refl
 owes-busy (s ∷ ss) =
@@ -30,7 +30,7 @@ owes-busy (s ∷ ss) =
     one Consumed = refl
     one Discarded = refl
 
--- how the six counts hang together
+-- how the six counts are related
 pub record Together (c : Chapter) (stored : List StoredRecord) (counts : Counts) : Type 0 where
   pub made_is : taken_before (closing_of c) + length stored ≡ counts.made
   pub consumed_is : (closing_of c).consumed ≡ counts.consumed
@@ -51,8 +51,8 @@ together earlier c stored counts g =
       low = (countable c.opening.setup h counts (legal earlier c stored counts g) g.counted).made;
     }
 
--- the numbers that a ring has: its refusals and discards, how many records were consumed and skipped, how many are there, and how many
--- entries they owe
+-- The numbers that a ring has: its refusals and discards, how many records were consumed, how many were skipped, how
+-- many are untaken, and how many entries these owe.
 pub record Tells (refused discarded consumed skipped many owing : ℕ) (counts : Counts) : Type 0 where
   pub low : consumed + skipped + many < 2 ^ 64
   pub busy_within : many ≤ owing

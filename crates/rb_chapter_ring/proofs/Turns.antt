@@ -1,4 +1,4 @@
--- The ring goes on in another chapter.
+-- The ring continues in another chapter.
 use Rattle.std.proofs.Common.{◌≡◌, ◌+◌, ◌<◌, ◌^◌, ◌↔◌, Bool, IsTrue, List, [], ◌∷◌, ◌++◌, length, arith, refl, sym, ap, ◌∙◌, subst, append-nil}
 use Rattle.rb_history.specs.declared.entries.Entry.{Entry}
 use Rattle.rb_history.specs.declared.answers.Counts.{Counts}
@@ -16,7 +16,7 @@ use Rattle.rb_chapter_ring.specs.inner.Ordinals.{taken_before}
 use Rattle.rb_chapter_ring.specs.inner.ChapterRingBody.{ring_of, IsStored, IsRingOf}
 
 module _ (earlier : List Entry) (c : Chapter) (stored : List StoredRecord) (counts : Counts) (g : IsRingOf earlier c stored counts) (d : Chapter) (meets : Meets c d) (none : d.entries ≡ []) (room : d.room ≡ c.room) where
-  -- it stands for the same
+  -- the summary does not change
   pub closing-same : closing_of d ≡ closing_of c
   closing-same = closing-none (earlier ++ c.entries) d (next-room earlier c d g.kept.continues g.kept.room meets none room).1 none ∙ meets.goes_on
 
@@ -48,7 +48,7 @@ module _ (earlier : List Entry) (c : Chapter) (stored : List StoredRecord) (coun
     consumer_same = ap (λ (o : Standing). o.consumer) closing-same;
   }
 
--- ---- which chapters it may go on in
+-- ---- the chapters in which it may continue
 
 nil-of : (es : List Entry) → length es ≡ 0 → es ≡ []
 nil-of [] e = refl

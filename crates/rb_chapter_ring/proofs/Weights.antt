@@ -1,4 +1,4 @@
--- A sum over the records that are there, by their status, and what each entry changes of it.
+-- A sum over the untaken records, weighted by their status, and what each entry changes in it.
 use Rattle.std.proofs.Common.{◌≡◌, ℕ, ◌+◌, ◌<◌, Bool, true, false, ◌||◌, List, [], ◌∷◌, ◌++◌, length, get_or, set, refl, sym, ap, ◌∙◌, arith, subst}
 use Rattle.std.specs.List.{sum_by}
 use Rattle.std.proofs.lemmas.Bool.{false_from_ne_true, or_from, true≢false}
@@ -19,7 +19,7 @@ use Rattle.rb_chapter_ring.specs.declared.record_end.RecordEnd.{RecordEnd}
 use Rattle.rb_chapter_ring.specs.declared.record_end.RecordEnd.TheVariants.{Submit, Discard}
 use Rattle.rb_chapter_ring.specs.RecordEnds.{entry_of_end, status_of_end}
 
--- each record counted by its status
+-- the sum of the records' weights by status
 abbrev pub weight : (Status → ℕ) → List Shown → ℕ
 weight f ss = sum_by (λ s. f s.status) ss
 
@@ -54,7 +54,7 @@ module _ (f : Status → ℕ) (r : Setup) (h : List Entry) (k : KeptAs r h) wher
         busy = ap (λ z. z.status) there.2 ∙ rw (s, d) refl;
       }
 
-  -- a record of the row has another status now
+  -- a record of the row has another status
   changed : (i : ℕ) (d : Shown) (st : Status) → i < length (records h) → (get_or (records h) i d).status ≡ Busy →
       weight f (set (records h) i (record (get_or (records h) i d) { status = st })) + f Busy ≡ weight f (records h) + f st
   changed i d st l b = ap (λ x. weight f (set (records h) i (record (get_or (records h) i d) { status = st })) + f x) (sym b) ∙ sum_by-set (λ (s : Shown). f s.status) (records h) i (record (get_or (records h) i d) { status = st }) d l

@@ -13,6 +13,6 @@ long-as old w =
     let d = length-drop (length w) old in
     omega arith
 
--- it is out in the hand that it was out in
+-- it remains in its hand
 pub written-in-hand : (v : HandRing) (hand : ℕ) (r : Granted) (w : List ℕ) → HasInHand v hand r → HasInHand v hand (record r { bytes = in_place_of r.bytes w })
 written-in-hand v hand r w out = out ∙ ap (λ n. Some (out_record r.pos r.serial n)) (sym (long-as r.bytes w))

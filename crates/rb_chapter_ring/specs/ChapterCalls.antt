@@ -1,4 +1,4 @@
--- What each call of a ring adds to its chapter and changes of its contents (own).
+-- What each call of a ring adds to its chapter and changes in its contents (own).
 use Rattle.std.specs.Prelude.{ℕ, ◌≡◌, true, List, [], ◌∷◌, ◌++◌, length, Some}
 use Rattle.std.specs.FinMap.{get, insert, remove}
 use Rattle.rb_history.specs.declared.entries.Entry.{Entry}
@@ -13,7 +13,7 @@ use Rattle.rb_chapter_ring.specs.Chapters.{Chapter, Meets}
 use Rattle.rb_chapter_ring.specs.ChapterRoom.{MayGrant, MayRefuse}
 use Rattle.rb_chapter_ring.specs.ChapterRing.{ChapterRing, IsGranted, HasLengthFrom}
 
--- ---- what a ring's chapter says now
+-- ---- the current state of a ring's chapter
 
 abbrev pub producer_by_chapter : ChapterRing → ℕ
 producer_by_chapter v = producer_from v.chapter.opening v.chapter.entries
@@ -24,7 +24,7 @@ consumer_by_chapter v = consumer_from v.chapter.opening v.chapter.entries
 abbrev pub ChapterRingHasRoom : ChapterRing → ℕ → Type 0
 ChapterRingHasRoom v n = HasRoomFrom v.chapter.opening v.chapter.entries n
 
--- a record of these four numbers is busy
+-- a record with these four numbers is busy
 pub record IsBusyFrom (o : Standing) (h : List Entry) (p w k n : ℕ) : Type 0 where
   pub granted_is : IsGranted o h w k n p
   pub busy : status_from o h p ≡ Busy
@@ -42,17 +42,17 @@ pub record HasBusyFrontByChapter (v : ChapterRing) : Type 0 where
 abbrev pub AllTakenByChapter : ChapterRing → Type 0
 AllTakenByChapter v = producer_by_chapter v ≡ consumer_by_chapter v
 
--- it is the same chapter, whatever its entries
+-- only the entries of the chapter changed
 abbrev pub IsSameChapter : ChapterRing → ChapterRing → Type 0
 IsSameChapter old new = new.chapter ≡ record old.chapter { entries = new.chapter.entries }
 
--- the entries were added to the chapter, and it is the same chapter
+-- the entries were appended to the chapter, and nothing else of it changed
 abbrev pub LogsByChapter : ChapterRing → ChapterRing → List Entry → Type 0
 LogsByChapter old new entries = new.chapter ≡ record old.chapter { entries = old.chapter.entries ++ entries }
 
 -- ---- reserve and output
 
--- a record of n bytes was granted to a worker
+-- a record of n bytes was granted to worker w, at position p with serial k
 pub record GrantsByChapter (old new : ChapterRing) (w n p k : ℕ) : Type 0 where
   pub room : ChapterRingHasRoom old n
   pub chapter_room : MayGrant old.chapter
@@ -61,20 +61,20 @@ pub record GrantsByChapter (old new : ChapterRing) (w n p k : ℕ) : Type 0 wher
   pub logged : LogsByChapter old new (Res w k n p ∷ [])
   pub contents_same : new.contents ≡ old.contents
 
--- the ring has no room for a record of n bytes, and that is logged
+-- the ring has no room for a record of n bytes, and the refusal is logged
 pub record FindsFullByChapter (old new : ChapterRing) (w n : ℕ) : Type 0 where
   pub no_room : ¬ ChapterRingHasRoom old n
   pub chapter_room : MayRefuse old.chapter w
   pub logged : LogsByChapter old new (Full w n ∷ [])
   pub contents_same : new.contents ≡ old.contents
 
--- the chapter has no room: for a grant where the ring has room, else for a refusal. Nothing changes
+-- the chapter has no room: for a grant if the ring has room, otherwise for the refusal; nothing changes
 pub record FindsChapterFull (old new : ChapterRing) (w n : ℕ) : Type 0 where
   pub no_grant : ChapterRingHasRoom old n → ¬ MayGrant old.chapter
   pub no_refusal : ¬ ChapterRingHasRoom old n → ¬ MayRefuse old.chapter w
   pub same : new ≡ old
 
--- a record of these bytes was granted and submitted at once
+-- a record of these bytes was granted and submitted in one call
 pub record OutputsByChapter (old new : ChapterRing) (w : ℕ) (bytes : List ℕ) : Type 0 where
   pub room : ChapterRingHasRoom old (length bytes)
   pub chapter_room : MayGrant old.chapter
@@ -102,7 +102,7 @@ pub record StraysByChapter (old new : ChapterRing) (r : Granted) : Type 0 where
 
 -- ---- take
 
--- the bytes of the waiting record at the consumer position are handed out
+-- the waiting record at the consumer position was taken, and its bytes are returned
 pub record TakesEventByChapter (old new : ChapterRing) (p w k : ℕ) (bytes : List ℕ) : Type 0 where
   pub front : p ≡ consumer_by_chapter old
   pub granted_is : IsGranted old.chapter.opening old.chapter.entries w k (length bytes) p
@@ -111,7 +111,7 @@ pub record TakesEventByChapter (old new : ChapterRing) (p w k : ℕ) (bytes : Li
   pub logged : LogsByChapter old new (Take p ∷ [])
   pub contents_are : new.contents ≡ remove old.contents p
 
--- the discarded record at the consumer position is passed over
+-- the discarded record at the consumer position was skipped
 pub record SkipsByChapter (old new : ChapterRing) (p n : ℕ) : Type 0 where
   pub front : p ≡ consumer_by_chapter old
   pub granted_is : HasLengthFrom old.chapter.opening old.chapter.entries p n
@@ -133,9 +133,10 @@ TakesByChapter old new (Skipped p n) = SkipsByChapter old new p n
 TakesByChapter old new BusyFront = FindsBusyFrontByChapter old new
 TakesByChapter old new Empty = FindsEmptyByChapter old new
 
--- ---- the turn of a chapter
+-- ---- handing out a chapter
 
--- the old chapter was handed out as it was, and the next one begins where it ends, without entries and with the same room
+-- the old chapter was handed out as it was, and the next one begins where it ends, without entries and with the same
+-- room
 pub record IsNextChapter (old new : ChapterRing) (out : Chapter) : Type 0 where
   pub out_is : out ≡ old.chapter
   pub next_is : Meets old.chapter new.chapter

@@ -1,4 +1,4 @@
--- What a contract sees of a ring that keeps its history by chapters, and what its state stands for (own).
+-- The view that contracts have of a ring with chapters, and when its state agrees with its chapter (own).
 use Rattle.std.specs.Prelude.{ℕ, ◌≡◌, ◌⊎◌, ◌↔◌, true, List, ◌++◌, Some, is_some, length}
 use Rattle.std.specs.List.{Contains}
 use Rattle.std.specs.FinMap.{get}
@@ -11,7 +11,7 @@ use Rattle.rb_chapter_ring.specs.Standing.{Standing}
 use Rattle.rb_chapter_ring.specs.CountedFrom.{producer_from, consumer_from, records_from, status_from}
 use Rattle.rb_chapter_ring.specs.Chapters.{Chapter}
 
--- a ring: its chapter and contents, and what it shows
+-- a ring: its chapter and contents, and what its state shows
 pub record ChapterRing : Type 0 where
   pub chapter : Chapter
   pub contents : Contents
@@ -19,11 +19,11 @@ pub record ChapterRing : Type 0 where
   pub producer : ℕ
   pub consumer : ℕ
 
--- a record of these numbers is one of the opening's
+-- a record with these numbers is one of the opening's
 abbrev pub IsShown : List Shown → ℕ → ℕ → ℕ → ℕ → Type 0
 IsShown ss w k n p = (st : Status) × Contains ss (record { pos = p; len = n; worker = w; serial = k; status = st })
 
--- a record of these numbers is one of the opening's, or was granted since
+-- a record with these numbers is one of the opening's, or was granted since
 abbrev pub IsGranted : Standing → List Entry → ℕ → ℕ → ℕ → ℕ → Type 0
 IsGranted o h w k n p = IsShown o.records w k n p ⊎ Contains h (Res w k n p)
 
@@ -31,8 +31,8 @@ IsGranted o h w k n p = IsShown o.records w k n p ⊎ Contains h (Res w k n p)
 abbrev pub HasLengthFrom : Standing → List Entry → ℕ → ℕ → Type 0
 HasLengthFrom o h p n = (w : ℕ) × ((k : ℕ) × IsGranted o h w k n p)
 
--- it shows exactly the records without a Take, in order, and both positions; the contents are those of the waiting ones, each as long
--- as its record
+-- The ring shows exactly the records without a Take, in order, and both positions. The contents are those of the
+-- waiting records, each with the length of its record.
 pub record StandsForChapter (v : ChapterRing) : Type 0 where
   pub shown : v.shown ≡ records_from v.chapter.opening v.chapter.entries
   pub producer_is : v.producer ≡ producer_from v.chapter.opening v.chapter.entries

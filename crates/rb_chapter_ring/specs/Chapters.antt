@@ -1,12 +1,12 @@
--- A ring's history, cut into numbered chapters. Each begins with what the one before it stands for at its end, so that none has to
--- be kept for the next to be read (own).
+-- A ring's history, divided into numbered chapters. The opening of each is a summary of the chapters before it, so that
+-- these are not needed to read it (own).
 --
 --      number 0                        number 1                                 number 2
 --     +---------+-------------------+ +---------+----------------------------+ +---------+---- -
 --     | opening | entries, up to    | | opening | entries, up to             | | opening | entries
 --     |         | the room          | |         | the room                   | |         |
 --     +---------+-------------------+ +---------+----------------------------+ +---------+---- -
---      the empty  Res Res Full Sub     producer, consumer: the next record's position, and the next to be taken
+--      the empty  Res Res Full Sub     producer, consumer: the positions of the next grant and of the next take
 --      ring                            records: those that were granted and not taken, in order, each with its status
 --                                      tallies, consumed, skipped: the totals of all entries before
 use Rattle.std.specs.Prelude.{ℕ, ◌≡◌, ◌+◌, ◌≤◌, List, [], ◌∷◌, replicate}
@@ -16,18 +16,18 @@ use Rattle.rb_history.specs.RoomRule.{Setup}
 use Rattle.rb_chapter_ring.specs.Standing.{Standing, no_tally}
 use Rattle.rb_chapter_ring.specs.CountedFrom.{standing_after, IsLegalFrom}
 
--- its number, how many entries it has room for, what stood when it was opened, and its entries
+-- a chapter: its number, its room in entries, the summary of what was before it, and its entries
 pub record Chapter : Type 0 where
   pub number : ℕ
   pub room : ℕ
   pub opening : Standing
   pub entries : List Entry
 
--- how many entries a chapter may have room for
+-- the possible rooms of a chapter
 abbrev pub IsChapterRoom : ℕ → Type 0
 IsChapterRoom room = (8 ≤ room) × (room ≤ 1048576)
 
--- an opening without records or totals, both positions at the start
+-- the opening of a new ring: no records or totals, and both positions at the start
 abbrev pub empty_ring : Setup → Standing
 empty_ring r = record {
   setup = r;
@@ -43,15 +43,15 @@ empty_ring r = record {
 abbrev pub first_chapter : ℕ → Setup → Chapter
 first_chapter room r = record { number = 0; room = room; opening = empty_ring r; entries = [] }
 
--- a chapter that no ring keeps: number 0, no entries, and an opening of zeros but for its workers
+-- a chapter that belongs to no ring: number 0, no entries, and an opening of zeros except for its number of workers
 abbrev pub empty_chapter : ℕ → ℕ → Chapter
 empty_chapter room workers = record { number = 0; room = room; opening = empty_ring (record { size = 0; start = 0; workers = workers }); entries = [] }
 
--- what a chapter stands for at its end
+-- the summary at a chapter's end
 abbrev pub closing_of : Chapter → Standing
 closing_of c = standing_after c.opening c.entries
 
--- the later begins where the earlier ends
+-- the later chapter begins where the earlier one ends
 pub record Meets (earlier later : Chapter) : Type 0 where
   pub next_number : later.number ≡ earlier.number + 1
   pub goes_on : later.opening ≡ closing_of earlier
@@ -59,12 +59,12 @@ pub record Meets (earlier later : Chapter) : Type 0 where
 abbrev pub IsLegalChapter : Chapter → Type 0
 IsLegalChapter c = IsLegalFrom c.opening c.entries
 
--- the chapters behind c: each meets the next, and all are legal
+-- the chapters after c: each meets the next, and all are legal
 abbrev pub AreMeeting : Chapter → List Chapter → Type 0
 AreMeeting c [] = Unit {0}
 AreMeeting c (d ∷ ds) = Meets c d × IsLegalChapter d × AreMeeting d ds
 
--- chapters of a ring, from number 0 and the empty ring on
+-- the chapters of a ring, which begin with number 0 and the empty ring
 pub record AreChaptersOf (r : Setup) (first : Chapter) (rest : List Chapter) : Type 0 where
   pub from_zero : first.number ≡ 0
   pub from_empty : first.opening ≡ empty_ring r

@@ -1,5 +1,6 @@
--- What entries say, counted from an opening: the opening's positions, records and totals are added to what the entries themselves say.
--- Each definition has one over a whole history beside it, in rb_history, and the same name with `from` (own).
+-- The meaning of entries counted from an opening: the opening's positions, records and totals, combined with those of
+-- the entries themselves. Each definition corresponds to one over a whole history in rb_history, of the same name
+-- without `from` (own).
 use Rattle.std.specs.Prelude.{ℕ, ◌≡◌, ◌+◌, ◌-◌, ◌<◌, ◌≤◌, ◌^◌, ◌==◌, ◌&&◌, ◌||◌, Bool, true, false, List, ◌∷◌, ◌++◌, Option, Some, None, if◌then◌else◌, map}
 use Rattle.std.specs.List.{list_any, sum_by, count_by, filter_map}
 use Rattle.rb_history.specs.declared.entries.Entry.{Entry}
@@ -14,7 +15,7 @@ use Rattle.rb_history.specs.declared.tally.Tally.{Tally}
 use Rattle.rb_history.specs.WorkerCounts.{is_record_of, is_refusal_of, is_take_where, numbers_below}
 use Rattle.rb_chapter_ring.specs.Standing.{Standing, tally_at, counts_at}
 
--- ---- the tests of a record of the opening
+-- ---- tests of a record of the opening
 
 abbrev pub shows_at : ℕ → Shown → Bool
 shows_at p s = s.pos == p
@@ -42,7 +43,7 @@ is_submitted_from o h p = list_any (shows_waiting_at p) o.records || is_submitte
 abbrev pub is_discarded_from : Standing → List Entry → ℕ → Bool
 is_discarded_from o h p = list_any (shows_discarded_at p) o.records || is_discarded_at h p
 
--- the status of a record that was not taken before the opening; any other position reads as busy
+-- the status of a record that was not taken before the opening; any other position counts as busy
 abbrev pub status_from : Standing → List Entry → ℕ → Status
 status_from o h p = status_by (is_submitted_from o h p) (is_discarded_from o h p) (is_taken_at h p)
 
@@ -66,28 +67,28 @@ taken_span_from o h _ = 0
 abbrev pub consumer_from : Standing → List Entry → ℕ
 consumer_from o h = o.consumer + sum_by (taken_span_from o h) h
 
--- ---- the records that are there
+-- ---- the records that were not taken
 
--- a record of the opening, where no entry takes it, with the status that it has now
+-- a record of the opening with its current status, unless an entry takes it
 abbrev pub still_untaken : Standing → List Entry → Shown → Option Shown
 still_untaken o h s = if is_taken_at h s.pos then None else Some (record s { status = status_from o h s.pos })
 
--- the opening's records that are still there, then those that the entries grant and do not take
+-- the opening's records that were not taken since, followed by those that the entries grant and do not take
 abbrev pub records_from : Standing → List Entry → List Shown
 records_from o h = filter_map (still_untaken o h) o.records ++ records h
 
 -- ---- totals
 
--- how many records a worker was granted
+-- the number of records that were granted to a worker
 abbrev pub grants_from : Standing → ℕ → List Entry → ℕ
 grants_from o w h = (tally_at o w).made + grants w h
 
--- the entry submits a record of the worker's
+-- the entry submits a record of the worker
 abbrev pub is_own_submit_from : Standing → ℕ → List Entry → Entry → Bool
 is_own_submit_from o w h (Sub p) = is_record_from o w h p
 is_own_submit_from o w h _ = false
 
--- the entry discards a record of the worker's
+-- the entry discards a record of the worker
 abbrev pub is_own_discard_from : Standing → ℕ → List Entry → Entry → Bool
 is_own_discard_from o w h (Dis p) = is_record_from o w h p
 is_own_discard_from o w h _ = false
@@ -101,11 +102,11 @@ tally_from o w h = record {
   discarded = (tally_at o w).discarded + count_by (is_own_discard_from o w h) h;
 }
 
--- how many submitted records were taken
+-- the number of submitted records that were taken
 abbrev pub events_from : Standing → List Entry → ℕ
 events_from o h = o.consumed + count_by (is_take_where (is_submitted_from o h)) h
 
--- how many discarded records were passed over
+-- the number of discarded records that were skipped
 abbrev pub skips_from : Standing → List Entry → ℕ
 skips_from o h = o.skipped + count_by (is_take_where (is_discarded_from o h)) h
 
@@ -125,7 +126,7 @@ standing_after o h = record {
 abbrev pub counts_from : Standing → List Entry → Counts
 counts_from o h = counts_at (standing_after o h)
 
--- the answers to a query (bpf-helpers(7), bpf_ringbuf_query); 0 for what it does not know
+-- the answer to each query; 0 for an unknown one (bpf-helpers(7), bpf_ringbuf_query)
 abbrev pub query_answer_from : Standing → List Entry → ℕ → ℕ
 query_answer_from o h q =
     if q == AVAIL_DATA then producer_from o h - consumer_from o h
@@ -134,9 +135,9 @@ query_answer_from o h q =
     else if q == PROD_POS then producer_from o h
     else 0
 
--- ---- which entries may stand in a chapter
+-- ---- which entries may follow in a chapter
 
--- there is room for a record of n bytes: the room rule over these positions
+-- there is room for a record of n bytes: the room rule, applied to these positions
 pub record HasRoomFrom (o : Standing) (h : List Entry) (n : ℕ) : Type 0 where
   pub space : producer_from o h + span n ≤ consumer_from o h + (o.setup.size - 1)
   pub limit : producer_from o h + span n ≤ 2 ^ 62
@@ -149,6 +150,6 @@ MayFollowFrom o b (Sub p) = (is_granted_from o b p ≡ true) × (is_submitted_fr
 MayFollowFrom o b (Dis p) = (is_granted_from o b p ≡ true) × (is_submitted_from o b p ≡ false) × (is_discarded_from o b p ≡ false)
 MayFollowFrom o b (Take p) = (p ≡ consumer_from o b) × ((is_submitted_from o b p || is_discarded_from o b p) ≡ true)
 
--- each entry may follow the part before it
+-- each entry may follow the entries before it
 pub record IsLegalFrom (o : Standing) (h : List Entry) : Type 0 where
   pub each : (before : List Entry) (e : Entry) (after : List Entry) → h ≡ before ++ e ∷ after → MayFollowFrom o before e

@@ -1,4 +1,4 @@
--- What a worker holds of a record that it was granted into one of its hands (own).
+-- What a worker holds for a record that was granted into one of its hands (own).
 use Rattle.std.specs.Prelude.{ℕ}
 use Rattle.rb_history.specs.ReservationModel.{Granted}
 

@@ -1,4 +1,4 @@
--- The laws of hands: what each entry, and each call of a ring, does to the book (own).
+-- The laws of hands: what each entry, and each call of a ring, does to the book of hands (own).
 use Rattle.std.specs.Prelude.{◌≡◌, ◌≢◌, ◌↔◌, ℕ, ◌<◌, List, [], ◌∷◌, ◌++◌, Option, Some, None}
 use Rattle.rb_history.specs.declared.entries.Entry.{Entry}
 use Rattle.rb_history.specs.declared.entries.Entry.TheVariants.{Res, Full, Sub, Dis, Take}
@@ -17,7 +17,7 @@ use Rattle.rb_chapter_ring.specs.HandRing.{HandRing, HasHands, HasInHand, Grants
 
 -- ---- one hand changes
 
--- the hand is as it was made, and all other hands, of this worker and of the others, are as they were
+-- the hand was set to x, and all other hands, of this worker and of the others, are unchanged
 pub record ChangesOneHand (workers : ℕ) (old new : HandBook) (w h : ℕ) (x : Option OutRecord) : Type 0 where
   pub shaped : IsShaped workers new
   pub changed : hand_at new w h ≡ x
@@ -31,11 +31,11 @@ OneHandChanges =
 
 -- ---- a whole history and its book
 
--- where nothing happened yet, no record is in any hand
+-- in the empty history no record is in any hand
 abbrev pub BookBeginsFree : Type 0
 BookBeginsFree = (workers : ℕ) → IsShaped workers (free_book workers) × IsBookOf (free_book workers) []
 
--- the book of a legal history, and what it is once the entries of one call stand behind that
+-- the book of a legal history, and the book after the entries of one more call
 pub record EntriesKeepBook (r : Setup) (h : List Entry) (book : HandBook) : Type 0 where
   pub grants : (w k n p hand : ℕ) → IsLegal r (h ++ Res w k n p ∷ []) → w < r.workers → IsFree (hands_of book w) hand
       → IsBookOf (with_hand book w hand (Some (out_record p k n))) (h ++ Res w k n p ∷ [])
@@ -48,7 +48,7 @@ pub record EntriesKeepBook (r : Setup) (h : List Entry) (book : HandBook) : Type
 abbrev pub BookGoesOn : Type 0
 BookGoesOn = (r : Setup) (h : List Entry) (book : HandBook) → IsLegal r h → IsShaped r.workers book → IsBookOf book h → EntriesKeepBook r h book
 
--- of any five busy records of one worker, two are one: a worker has at most four
+-- of any five busy records of one worker, two are the same: a worker has at most four
 abbrev pub AtMostFourBusy : Type 0
 AtMostFourBusy =
     (r : Setup) (h : List Entry) (book : HandBook) → IsLegal r h → IsShaped r.workers book → IsBookOf book h
@@ -56,7 +56,7 @@ AtMostFourBusy =
 
 -- ---- a ring and its book
 
--- each call keeps the book, and handing a chapter out does
+-- each call preserves the book, and so does handing out a chapter
 pub record CallsKeepHands (old new : HandRing) : Type 0 where
   pub grants : (w hand n p k : ℕ) → w < old.ring.chapter.opening.setup.workers → GrantsToHand old new w hand n p k → HasHands new
   pub finds_full : (w n : ℕ) → w < old.ring.chapter.opening.setup.workers → FindsFullByChapter old.ring new.ring w n → new.hands ≡ old.hands → HasHands new
@@ -70,7 +70,7 @@ pub record CallsKeepHands (old new : HandRing) : Type 0 where
 abbrev pub EachCallKeepsHands : Type 0
 EachCallKeepsHands = (earlier : List Entry) (old new : HandRing) → IsKept earlier old.ring.chapter → HasHands old → CallsKeepHands old new
 
--- a reservation whose numbers stand in a hand of its worker is busy: so its submit and its discard are not refused
+-- A reservation whose numbers are in a hand of its worker is busy, so its submit and its discard are not refused.
 abbrev pub InHandIsBusy : Type 0
 InHandIsBusy = (v : HandRing) (hand : ℕ) (r : Granted) → HasHands v → HasInHand v hand r → HoldsReservationFrom v.ring r
 

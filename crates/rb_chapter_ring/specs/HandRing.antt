@@ -1,4 +1,4 @@
--- A ring over chapters with its book of hands, and what each call that changes a hand does (own).
+-- A ring with its book of hands, and what each call that changes a hand does (own).
 use Rattle.std.specs.Prelude.{◌≡◌, ℕ, Some, None, length}
 use Rattle.rb_history.specs.ReservationModel.{Granted}
 use Rattle.rb_chapter_ring.specs.ChapterRing.{ChapterRing}
@@ -13,16 +13,17 @@ pub record HandRing : Type 0 where
 abbrev pub hand_ring : ChapterRing → HandBook → HandRing
 hand_ring ring hands = record { ring = ring; hands = hands }
 
--- what the ring's type keeps of its hands: there are four for each worker, and the book's positions are exactly the busy records, each once
+-- the invariant of a ring's hands: there are four for each worker, and the book's positions are exactly those of the
+-- busy records, each once
 pub record HasHands (v : HandRing) : Type 0 where
   pub shaped : IsShaped v.ring.chapter.opening.setup.workers v.hands
   pub holds : HoldsBusy v.hands (IsBusyFrom v.ring.chapter.opening v.ring.chapter.entries)
 
--- the book has the reservation's numbers at its worker and this hand
+-- the book has the reservation's numbers for its worker and this hand
 abbrev pub HasInHand : HandRing → ℕ → Granted → Type 0
 HasInHand v hand r = hand_at v.hands r.worker hand ≡ Some (out_record r.pos r.serial (length r.bytes))
 
--- ---- the calls that change a hand; all others leave the book
+-- ---- the calls that change a hand; all others leave the book unchanged
 
 -- a record was granted into a hand that was free
 pub record GrantsToHand (old new : HandRing) (w hand n p k : ℕ) : Type 0 where

@@ -1,4 +1,4 @@
--- A ring as `new` makes it, its bounds, and which chapters it hands its own out for (own).
+-- A ring as `new` creates it, its bounds, and the chapters in which it may continue (own).
 use Rattle.std.specs.Prelude.{ℕ, ◌≡◌, ◌+◌, ◌-◌, ◌<◌, ◌≤◌, ◌^◌, [], min}
 use Rattle.std.specs.FinMap.{empty}
 use Rattle.rb_history.specs.declared.answers.Counts.{Counts}
@@ -8,11 +8,11 @@ use Rattle.rb_chapter_ring.specs.CountedFrom.{counts_from}
 use Rattle.rb_chapter_ring.specs.Chapters.{Chapter, IsChapterRoom, first_chapter}
 use Rattle.rb_chapter_ring.specs.ChapterRing.{ChapterRing}
 
--- the ring whose first chapter has no entries
+-- a new ring, whose first chapter has no entries
 abbrev pub opened_ring : ℕ → Setup → ChapterRing
 opened_ring room r = record { chapter = first_chapter room r; contents = empty; shown = []; producer = r.start; consumer = r.start }
 
--- the bounds of a ring
+-- the bounds on a ring's parameters and positions
 pub record IsChapterRingWithin (v : ChapterRing) : Type 0 where
   pub size : IsRingSize v.chapter.opening.setup.size
   pub start : IsStartPosition v.chapter.opening.setup.start
@@ -22,21 +22,22 @@ pub record IsChapterRingWithin (v : ChapterRing) : Type 0 where
   pub producer : v.producer ≤ 2 ^ 62
   pub room : v.producer ≤ v.consumer + (v.chapter.opening.setup.size - 1)
 
--- the ring goes on in that chapter: it has no entries, the same room and as many workers, and there is a next number
+-- the ring may continue in that chapter: it has no entries, the same room and number of workers, and there is a next
+-- chapter number
 pub record MayGoOnIn (v : ChapterRing) (c : Chapter) : Type 0 where
   pub no_entries : c.entries ≡ []
   pub room_same : c.room ≡ v.chapter.room
   pub workers_same : c.opening.setup.workers ≡ v.chapter.opening.setup.workers
   pub numbered : v.chapter.number < 2 ^ 62
 
--- a number, as far as 64 bits hold it
+-- a number that saturates at 2^64 - 1
 abbrev pub capped : ℕ → ℕ
 capped n = min n (2 ^ 64 - 1)
 
--- of the refusals 2^64 - 1 at most are told
+-- the counts, of which the refusals saturate at 2^64 - 1
 abbrev pub capped_counts : Counts → Counts
 capped_counts c = record c { refused = capped c.refused }
 
--- the six counts that the ring tells
+-- the six counts that the ring returns
 abbrev pub told_counts : ChapterRing → Counts
 told_counts v = capped_counts (counts_from v.chapter.opening v.chapter.entries)

@@ -1,4 +1,4 @@
--- What the end of a record is to its ring, as its worker says: a submit or a discard (own).
+-- The effect of a record's commit, which is a submit or a discard as its worker chooses (own).
 use Rattle.std.specs.Prelude.{ℕ, ◌+◌}
 use Rattle.rb_history.specs.declared.entries.Entry.{Entry}
 use Rattle.rb_history.specs.declared.entries.Entry.TheVariants.{Sub, Dis}
@@ -12,27 +12,27 @@ use Rattle.rb_chapter_ring.specs.HandRing.{HandRing, SubmitsFromHand, DiscardsFr
 use Rattle.rb_chapter_ring.specs.declared.record_end.RecordEnd.{RecordEnd}
 use Rattle.rb_chapter_ring.specs.declared.record_end.RecordEnd.TheVariants.{Submit, Discard}
 
--- what is logged of the record at a position
+-- the entry that is logged for the record at a position
 abbrev pub entry_of_end : RecordEnd → ℕ → Entry
 entry_of_end Submit p = Sub p
 entry_of_end Discard p = Dis p
 
--- what an untaken record is after it
+-- the status of an untaken record after it
 abbrev pub status_of_end : RecordEnd → Status
 status_of_end Submit = Waiting
 status_of_end Discard = Discarded
 
--- the totals of the record's worker
+-- the totals of the record's worker after it
 abbrev pub tally_with_end : RecordEnd → Tally → Tally
 tally_with_end Submit t = record t { submitted = t.submitted + 1 }
 tally_with_end Discard t = record t { discarded = t.discarded + 1 }
 
--- the record of a reservation comes to this end
+-- the record of a reservation is committed in this way
 abbrev pub Ends : RecordEnd → Granted → ChapterRing → ChapterRing → Type 0
 Ends Submit r old new = SubmitsByChapter old new r
 Ends Discard r old new = DiscardsByChapter old new r
 
--- and so does the record of a hand, which is free then
+-- the record of a hand is committed in this way, and the hand is free
 abbrev pub EndsFromHand : RecordEnd → ℕ → Granted → HandRing → HandRing → Type 0
 EndsFromHand Submit hand r old new = SubmitsFromHand old new hand r
 EndsFromHand Discard hand r old new = DiscardsFromHand old new hand r

@@ -1,4 +1,4 @@
--- What a ring's history stands for at a point: all that is needed to go on from there (own).
+-- The summary of a ring's history at a point: everything that is needed to continue from there (own).
 use Rattle.std.specs.Prelude.{ℕ, List, map}
 use Rattle.std.specs.List.{sum_by, count_by, slice_index_or as get_or}
 use Rattle.rb_history.specs.declared.entries.Entry.{Entry}
@@ -10,8 +10,9 @@ use Rattle.rb_history.specs.RoomRule.{Setup}
 use Rattle.rb_history.specs.declared.tally.Tally.{Tally}
 use Rattle.rb_history.specs.WorkerCounts.{tally_of, events_of, skips_of, numbers_below}
 
--- the ring's setup; the position of the next grant and of the next take; the records that were not taken, in order, as a state shows
--- them; each worker's totals, by its number; and how many takes handed a record out and how many passed one over
+-- The ring's parameters; the positions of the next grant and of the next take; the records that were not taken, in
+-- order, as a state shows them; each worker's totals, by its number; and how many takes returned a record and how many
+-- skipped one.
 pub record Standing : Type 0 where
   pub setup : Setup
   pub producer : ℕ
@@ -21,7 +22,7 @@ pub record Standing : Type 0 where
   pub consumed : ℕ
   pub skipped : ℕ
 
--- what a whole history stands for at its end
+-- the summary of a whole history at its end
 abbrev pub standing_of : Setup → List Entry → Standing
 standing_of r h = record {
   setup = r;
@@ -45,15 +46,15 @@ tally_at o w = get_or o.tallies w no_tally
 abbrev pub no_record : Shown
 no_record = record { pos = 0; len = 0; worker = 0; serial = 0; status = Discarded }
 
--- the record at an index, from the front on
+-- the record at an index, counted from the front
 abbrev pub record_in : Standing → ℕ → Shown
 record_in o i = get_or o.records i no_record
 
--- how many of the records have this status
+-- the number of records with this status
 abbrev pub shown_count : Status → List Shown → ℕ
 shown_count st ss = count_by (λ s. is_same st s.status) ss
 
--- the six counts of the history that the opening stands for
+-- the six counts of the history that the opening summarizes
 abbrev pub counts_at : Standing → Counts
 counts_at o = record {
   made = sum_by (λ t. t.made) o.tallies;

@@ -1,8 +1,9 @@
--- What a contract sees of an opening as a value (own).
+-- The view that contracts have of an opening as a value (own).
 use Rattle.std.specs.Prelude.{ℕ}
 use Rattle.rb_chapter_ring.specs.Standing.{Standing}
 
--- what it says; for how many records it has memory; and how many of those that it had were taken and still have theirs
+-- the summary; the number of records for which there is memory; and the number of records that were taken and still
+-- occupy memory
 pub record StandingValue : Type 0 where
   pub opening : Standing
   pub room : ℕ

@@ -1,4 +1,4 @@
--- A ring of one thread, with the number that its reservations name (own).
+-- A ring of one thread, with the tag that its reservations name (own).
 use Rattle.std.specs.Prelude.{ℕ}
 use Rattle.rb_chapter_ring.specs.HandRing.{HandRing}
 

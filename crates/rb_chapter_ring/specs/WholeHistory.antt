@@ -1,4 +1,5 @@
--- The laws that tie chapters to the whole history: so what is said of a ring by its chapter is said of all that it ever did (own).
+-- The laws that relate chapters to the whole history, so that what is stated for a ring by its chapter holds over the
+-- whole history (own).
 use Rattle.std.specs.Prelude.{ℕ, ◌≡◌, ◌<◌, ◌↔◌, false, List, [], ◌∷◌, ◌++◌}
 use Rattle.std.specs.List.{Contains}
 use Rattle.rb_history.specs.declared.entries.Entry.{Entry}
@@ -20,9 +21,9 @@ use Rattle.rb_chapter_ring.specs.ChapterRoom.{HasRoomForEntry, HasRoomForOwed, M
 use Rattle.rb_chapter_ring.specs.ChapterRing.{ChapterRing, IsGranted, StandsForChapter, whole_ring}
 use Rattle.rb_chapter_ring.specs.ChapterCalls.{IsBusyFrom, IsSameChapter, IsNextChapter, GrantsByChapter, FindsFullByChapter, FindsChapterFull, OutputsByChapter, SubmitsByChapter, DiscardsByChapter, StraysByChapter, TakesByChapter, HasBusyFrontByChapter, AllTakenByChapter, HandsOut}
 
--- what is counted from the opening is what the whole history says: both positions, the records, each worker's totals and the
--- consumer's, which make up the next opening; the counts, the answers to a query and the room; and of the records that h did not take, whose they are and
--- their status
+-- What is counted from the opening o agrees with the whole history: both positions, the records, and the totals of each
+-- worker and of the consumer, which make up the next opening; the counts, the answers to a query and the room; and, for
+-- records that h did not take, their worker and their status.
 pub record IsSameFrom (r : Setup) (h : List Entry) (o : Standing) (t : List Entry) : Type 0 where
   pub stands : standing_after o t ≡ standing_of r (h ++ t)
   pub counts : counts_from o t ≡ counts_of (h ++ t)
@@ -33,7 +34,8 @@ pub record IsSameFrom (r : Setup) (h : List Entry) (o : Standing) (t : List Entr
   pub granted : (p : ℕ) → is_taken_at h p ≡ false → (w k n : ℕ) → IsGranted o t w k n p ↔ Contains (h ++ t) (Res w k n p)
   pub busy : (p w k n : ℕ) → IsBusyFrom o t p w k n ↔ IsBusy (h ++ t) p w k n
 
--- where o is what the legal history h stands for: entries are legal from o exactly where h and they are legal, and say the same
+-- if o is the summary of the legal history h, entries are legal from o if and only if h followed by them is legal, and
+-- then both agree
 abbrev pub CountedFromOpening : Type 0
 CountedFromOpening =
     (r : Setup) (h : List Entry) (o : Standing) → IsLegal r h → o ≡ standing_of r h → (t : List Entry)
@@ -41,7 +43,7 @@ CountedFromOpening =
 
 -- ---- chapters that meet
 
--- the chapters join to a legal history, and the last one stands for it
+-- the chapters join to a legal history, whose summary is the one at the end of the last chapter
 pub record Join (r : Setup) (first : Chapter) (rest : List Chapter) : Type 0 where
   pub legal : IsLegal r (joined (first ∷ rest))
   pub stands : closing_of (last_of first rest) ≡ standing_of r (joined (first ∷ rest))
@@ -49,14 +51,15 @@ pub record Join (r : Setup) (first : Chapter) (rest : List Chapter) : Type 0 whe
 abbrev pub ChaptersJoin : Type 0
 ChaptersJoin = (r : Setup) (first : Chapter) (rest : List Chapter) → AreChaptersOf r first rest → Join r first rest
 
--- the chapters and then the last one are a ring's: numbered 0 upward, from the empty ring on, each meeting the next, and legal
+-- the chapters followed by the last one are those of a ring: numbered from 0 on, beginning with the empty ring, each
+-- meeting the next, and legal
 pub record Binds (chapters : List Chapter) (last : Chapter) : Type 0 where
   pub first : Chapter
   pub rest : List Chapter
   pub all : first ∷ rest ≡ chapters ++ last ∷ []
   pub are : AreChaptersOf last.opening.setup first rest
 
--- the history has all their entries, is legal, and is what the last one stands for
+-- the history consists of all their entries, is legal, and its summary is the one at the end of the last chapter
 pub record IsBound (chapters : List Chapter) (last : Chapter) (history : List Entry) : Type 0 where
   pub entries : history ≡ joined chapters ++ last.entries
   pub legal : IsLegal last.opening.setup history
@@ -67,19 +70,21 @@ OnceBound = (chapters : List Chapter) (last : Chapter) → Binds chapters last �
 
 -- ---- the chapter of a ring
 
--- a chapter of a ring: legal from its opening, which is what the legal history before it stands for
+-- the chapter continues the legal history before it: its opening is the summary of that history, and it is legal from
+-- its opening
 pub record ContinuesHistory (earlier : List Entry) (c : Chapter) : Type 0 where
   pub earlier_legal : IsLegal c.opening.setup earlier
   pub opened : c.opening ≡ standing_of c.opening.setup earlier
   pub legal : IsLegalFrom c.opening c.entries
 
--- behind an entry that may follow there is room for all that is owed then, exactly where there was room for the entry
+-- after an entry that may follow there is room for everything that is then owed, if and only if there was room for the
+-- entry
 abbrev pub EntriesKeepRoom : Type 0
 EntriesKeepRoom =
     (earlier : List Entry) (c : Chapter) (e : Entry) → ContinuesHistory earlier c → MayFollowFrom c.opening c.entries e
     → HasRoomForEntry c e ↔ HasRoomForOwed (with_entry c e)
 
--- a chapter that meets the one that is handed out has room for what it owes, and continues the longer history
+-- a chapter that succeeds the one that is handed out has room for what it owes, and continues the longer history
 abbrev pub NextHasRoom : Type 0
 NextHasRoom =
     (earlier : List Entry) (c d : Chapter) → ContinuesHistory earlier c → HasRoomForOwed c → Meets c d → d.entries ≡ [] → d.room ≡ c.room
@@ -92,7 +97,7 @@ pub record IsKept (earlier : List Entry) (c : Chapter) : Type 0 where
 
 -- ---- the calls of a ring
 
--- each call leaves a chapter that is kept so, and so does handing one out
+-- each call preserves these facts about the chapter, and so does handing one out
 pub record AreKeepingCalls (earlier : List Entry) (old new : ChapterRing) : Type 0 where
   pub grants : (w n p k : ℕ) → w < old.chapter.opening.setup.workers → GrantsByChapter old new w n p k → IsKept earlier new.chapter
   pub finds_full : (w n : ℕ) → w < old.chapter.opening.setup.workers → FindsFullByChapter old new w n → IsKept earlier new.chapter
@@ -107,12 +112,12 @@ pub record AreKeepingCalls (earlier : List Entry) (old new : ChapterRing) : Type
 abbrev pub CallsKeepChapters : Type 0
 CallsKeepChapters = (earlier : List Entry) (old new : ChapterRing) → IsKept earlier old.chapter → AreKeepingCalls earlier old new
 
--- a ring stands for its chapter exactly where it stands for its whole history
+-- a ring's state agrees with its chapter if and only if it agrees with its whole history
 abbrev pub StandsAlike : Type 0
 StandsAlike = (earlier : List Entry) (v : ChapterRing) → ContinuesHistory earlier v.chapter → StandsForChapter v ↔ StandsFor (whole_ring earlier v)
 
--- each call by its chapter is the call of the ring with its whole history, exactly: that call, in the same chapter, where the chapter
--- has the room that the call asks for. Handing a chapter out changes nothing of that ring
+-- Each call by its chapter is exactly the call of the ring with its whole history, in the same chapter, if the chapter
+-- has the room that the call needs. Handing out a chapter changes nothing of the ring with its whole history.
 pub record AreWholeCalls (earlier : List Entry) (old new : ChapterRing) : Type 0 where
   pub grants : (w n p k : ℕ) → w < old.chapter.opening.setup.workers
       → GrantsByChapter old new w n p k ↔ (MayGrant old.chapter × IsSameChapter old new × WholeGrants (whole_ring earlier old) (whole_ring earlier new) w n p k)

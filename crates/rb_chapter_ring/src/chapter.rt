@@ -17,17 +17,18 @@ use rb_history::{Entry, POSITION_LIMIT, span};
 use std::alloc::{AllocError, Global};
 use std::marker::Model;
 
-/// The highest number of a chapter, and of a worker's refusals: as high as positions go, so that totals fit 64 bits.
+/// The limit of a chapter's number, and of a worker's refusals. It is the limit of positions, so totals fit in 64 bits.
 pub const COUNT_LIMIT: u64 = POSITION_LIMIT;
 
-/// One chapter of a ring's history. It has the memory for as many entries as it has room for, and takes none after `new`.
+/// One chapter of a ring's history. It has memory for as many entries as its room, and does not allocate after `new`.
 #[derive(Drop)]
 pub struct Chapter {
     number: u64,
     room: u32,
     opening: Standing,
     entries: Vec<Entry>,
-    // What it stands for at its end, and how many entries it owes then: so that neither is counted from the entries.
+    // The summary at its end, and how many entries it owes then. Both are stored, so that neither has to be computed
+    // from the entries.
     closing: Standing,
     owed: u32,
 }
@@ -49,8 +50,11 @@ impl Model for Chapter {
 }
 
 impl Chapter {
-    /// A chapter that no ring keeps: number 0, no entries, and an opening of zeros but for its workers. It has room for `room` entries,
-    /// 8 to 1,048,576, and takes the memory for them, for as many untaken records, and for the totals of 1 to 256 workers.
+    /// Returns a chapter that belongs to no ring: number 0, no entries, and an opening of zeros except for its number
+    /// of workers.
+    ///
+    /// It has room for `room` entries, 8 to 1,048,576. Allocates memory for these, for as many untaken records, and for
+    /// the totals of 1 to 256 workers.
     pub fn new(alloc: Global, room: u32, workers: u32) -> Result<Chapter, AllocError>
         requires room { IsChapterRoom room }
         requires workers { IsWorkerCount workers }
@@ -66,8 +70,8 @@ impl Chapter {
         })
     }
 
-    /// Another chapter with the same number, room, opening and entries, and memory of its own; the error is want of memory. In time linear in
-    /// the entries, the untaken records and the workers.
+    /// Returns a copy of the chapter in new memory, with the same number, room, opening and entries. Fails if memory
+    /// can't be allocated. Takes time linear in the numbers of entries, of untaken records and of workers.
     pub fn try_clone(&self, alloc: Global) -> Result<Chapter, AllocError>
         ensures same { IfOk result (λ c. c ≡ self.now) }
     {
@@ -85,15 +89,17 @@ impl Chapter {
         })
     }
 
-    /// Makes it the chapter that `new` gives for its room and workers. In time linear in the workers.
+    /// Resets the chapter to the one that `new` returns for its room and workers. Takes time linear in the number of
+    /// workers.
     pub fn clear(&mut self)
         ensures empty { self.new ≡ empty_chapter self.old.room self.old.opening.setup.workers }
     {
         self.open_first(0, 0);
     }
 
-    /// Makes it the first chapter of a ring of `size` bytes whose first position is `start`, for its workers: number 0, without entries or
-    /// records, and both positions at the start. In time linear in the workers, and without memory.
+    /// Resets the chapter to the first one of a ring of `size` bytes whose first position is `start`, with the same
+    /// number of workers: number 0, no entries or records, and both positions at the start. Takes time linear in the
+    /// number of workers, and does not allocate.
     pub(crate) fn open_first(&mut self, size: u64, start: u64)
         ensures first { self.new ≡ first_chapter self.old.room (record { size = size; start = start; workers = self.old.opening.setup.workers }) }
     {
@@ -104,8 +110,10 @@ impl Chapter {
         self.owed = 0;
     }
 
-    /// Makes an empty chapter the one after `earlier`, of the same room and workers: its number is the next, and it begins with what
-    /// `earlier` stands for at its end. In time linear in the untaken records and the workers, and without memory.
+    /// Makes an empty chapter the successor of `earlier`, which has the same room and number of workers: its number is
+    /// the next one, and its opening is the summary of `earlier` at its end.
+    ///
+    /// Takes time linear in the numbers of untaken records and of workers, and does not allocate.
     pub fn open_after(&mut self, earlier: &Chapter)
         requires empty { self.old.entries ≡ [] }
         requires room { self.old.room ≡ earlier.now.room }
@@ -121,7 +129,8 @@ impl Chapter {
         self.owed = earlier.owed;
     }
 
-    /// Adds a refusal: the worker asked for `len` bytes, and the ring has no room for them. In constant time, and without memory.
+    /// Logs a refusal: the worker requested `len` bytes, and the ring has no room for them. Takes constant time and
+    /// does not allocate.
     pub(crate) fn log_refusal(&mut self, worker: u32, len: u32)
         requires worker { worker < self.old.opening.setup.workers }
         requires no_room { ¬ HasRoomFrom self.old.opening self.old.entries len }
@@ -132,8 +141,8 @@ impl Chapter {
         log(&mut self.entries, Entry::Full(worker, len));
     }
 
-    /// Adds a grant: the worker is granted the next record, of `len` bytes, at the producer position. In constant time, and without
-    /// memory.
+    /// Logs a grant: the worker is granted the next record, of `len` bytes, at the producer position. Takes constant
+    /// time and does not allocate.
     pub(crate) fn log_grant(&mut self, worker: u32, len: u32)
         requires worker { worker < self.old.opening.setup.workers }
         requires room { HasRoomFrom self.old.opening self.old.entries len }
@@ -149,7 +158,8 @@ impl Chapter {
     }
 
     #[inline(always)]
-    /// Adds the end of the record at an index of those that are there, from the front on. In constant time, and without memory.
+    /// Logs the commit of the record at an index among the untaken ones, counted from the front. Takes constant time
+    /// and does not allocate.
     pub(crate) fn log_end(&mut self, index: usize, end: RecordEnd)
         requires busy { IsBusyNow self.old index }
         ensures logged { self.new ≡ with_entry self.old (entry_of_end end (record_now self.old index).pos) }
@@ -158,7 +168,8 @@ impl Chapter {
         log_owed(&mut self.entries, &mut self.owed, end.entry(pos));
     }
 
-    /// Adds a take of the record at the front, which was submitted or discarded. In constant time, and without memory.
+    /// Logs a take of the record at the front, which was submitted or discarded. Takes constant time and does not
+    /// allocate.
     pub(crate) fn log_take(&mut self)
         requires front { HasSettledFront self.old }
         ensures logged { self.new ≡ with_entry self.old (Take (consumer_from self.old.opening self.old.entries)) }
@@ -167,28 +178,29 @@ impl Chapter {
         log_owed(&mut self.entries, &mut self.owed, Entry::Take(pos));
     }
 
-    /// What holds of each chapter: it is legal from its opening, which a legal history stands for, and it has room for what it owes.
+    /// States the invariant of a chapter: it is legal from its opening, which is the summary of a legal history, and it
+    /// has room for the entries that it owes.
     pub fn facts(&self)
         ensures kept { (earlier : List Entry) × IsKept earlier self.now }
     {
         let _ = &self.entries;
     }
 
-    /// Its number, from 0 on.
+    /// Returns the chapter's number, counted from 0.
     pub fn number(&self) -> u64
         ensures number { result ≡ self.now.number }
     {
         self.number
     }
 
-    /// How many entries it has room for.
+    /// Returns the chapter's room in entries.
     pub fn room(&self) -> u32
         ensures room { result ≡ self.now.room }
     {
         self.room
     }
 
-    /// What it begins with. It has memory for as many untaken records as the chapter has room for entries.
+    /// Returns the opening. It has memory for as many untaken records as the chapter has room for entries.
     pub fn opening(&self) -> &Standing
         ensures opening { result.now.opening ≡ self.now.opening }
         ensures room { self.now.room ≤ result.now.room }
@@ -196,7 +208,8 @@ impl Chapter {
         &self.opening
     }
 
-    /// What it stands for at its end: what the next chapter begins with. In constant time, since a chapter keeps it beside the entries.
+    /// Returns the summary at the chapter's end, which is the opening of the next chapter. Takes constant time, since a
+    /// chapter stores it beside the entries.
     pub fn closing(&self) -> &Standing
         ensures closing { result.now.opening ≡ closing_of self.now }
         ensures room { self.now.room ≤ result.now.room }
@@ -204,22 +217,22 @@ impl Chapter {
         &self.closing
     }
 
-    /// How many entries it has. In constant time.
+    /// Returns the number of entries. Takes constant time.
     pub fn used(&self) -> u32
         ensures used { result ≡ used self.now }
     {
         self.entries.len() as u32
     }
 
-    /// How many more entries its untaken records ask for: two for each busy one, its end and its take, and one for each other. In constant
-    /// time.
+    /// Returns how many entries its untaken records will still log: two for each busy one, its commit and its take, and
+    /// one for any other. Takes constant time.
     pub fn owed(&self) -> u32
         ensures owed { result ≡ owed self.now }
     {
         self.owed
     }
 
-    /// Whether the ring has room for a record of `len` bytes, by the room rule. In constant time.
+    /// Returns whether the ring has room for a record of `len` bytes, by the room rule. Takes constant time.
     pub(crate) fn has_room(&self, len: u32) -> bool
         ensures exact { IsTrue result ↔ HasRoomFrom self.now.opening self.now.entries len }
     {
@@ -227,15 +240,16 @@ impl Chapter {
         fits(numbers.producer, numbers.consumer, numbers.size, len)
     }
 
-    /// Whether there is room in the chapter for a grant, and for the end and the take of its record. In constant time.
+    /// Returns whether the chapter has room for a grant, and for the commit and the take of its record. Takes constant
+    /// time.
     pub fn may_grant(&self) -> bool
         ensures exact { IsTrue result ↔ MayGrant self.now }
     {
         self.used() + self.owed + 3 <= self.room
     }
 
-    /// Whether a refusal of the worker may be logged: there is room in the chapter, and the worker has less than 2^62 of them. In constant
-    /// time.
+    /// Returns whether a refusal of the worker may be logged: the chapter has room, and the worker has fewer than 2^62
+    /// refusals. Takes constant time.
     pub(crate) fn may_refuse(&self, worker: u32) -> bool
         requires worker { worker < self.now.opening.setup.workers }
         ensures exact { IsTrue result ↔ MayRefuse self.now worker }
@@ -244,8 +258,9 @@ impl Chapter {
         is_countable(self.used() + self.owed, self.room, refused)
     }
 
-    /// Whether `next` is the chapter after this one: its number is the next, and it begins with what this one stands for at its end. In
-    /// time linear in the untaken records and the workers, and without memory.
+    /// Returns whether `next` is the chapter after this one: its number is the next one, and its opening is the summary
+    /// of this chapter at its end. Takes time linear in the numbers of untaken records and of workers, and does not
+    /// allocate.
     pub fn meets(&self, next: &Chapter) -> bool
         ensures exact { IsTrue result ↔ Meets self.now next.now }
     {
@@ -258,7 +273,7 @@ impl Chapter {
         self.closing.is_same(&next.opening)
     }
 
-    /// Its entries, oldest first.
+    /// Returns the entries, the oldest first.
     pub fn entries(&self) -> &[Entry]
         ensures entries { result.now ≡ self.now.entries }
     {
@@ -266,7 +281,7 @@ impl Chapter {
     }
 }
 
-// Adds the entry. It takes no memory.
+// Appends the entry. Does not allocate.
 fn log(entries: &mut Vec<Entry>, entry: Entry)
     requires space { vec_len entries.old < vec_capacity entries.old }
     ensures logged { entries.new.items ≡ entries.old.items ++ entry ∷ [] }
@@ -275,7 +290,7 @@ fn log(entries: &mut Vec<Entry>, entry: Entry)
     entries.push_reserved(entry);
 }
 
-// Adds an entry that was owed. It takes no memory.
+// Appends an entry that was owed. Does not allocate.
 fn log_owed(entries: &mut Vec<Entry>, owed: &mut u32, entry: Entry)
     requires owing { 0 < owed.old }
     requires space { vec_len entries.old < vec_capacity entries.old }
@@ -287,7 +302,7 @@ fn log_owed(entries: &mut Vec<Entry>, owed: &mut u32, entry: Entry)
     log(entries, entry);
 }
 
-// Whether a record of `len` bytes may be granted at the producer position.
+// Returns whether a record of `len` bytes may be granted at the producer position.
 fn fits(producer: u64, consumer: u64, size: u64, len: u32) -> bool
     requires positions { consumer ≤ producer }
     ensures exact { IsTrue result ↔ ((producer + span len ≤ consumer + (size - 1)) × (producer + span len ≤ 2 ^ 62)) }
@@ -302,7 +317,7 @@ fn fits(producer: u64, consumer: u64, size: u64, len: u32) -> bool
     true
 }
 
-// Whether one refusal more has room and fits the worker's total.
+// Returns whether one more refusal has room and fits in the worker's total.
 fn is_countable(taken: u32, room: u32, refused: u64) -> bool
     ensures exact { IsTrue result ↔ ((taken < room) × (refused < 2 ^ 62)) }
 {

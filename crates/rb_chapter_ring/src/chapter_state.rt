@@ -1,4 +1,5 @@
-//! A ring with one chapter of its history, without hands: a record that is given back is busy, which its caller knows by the hand that it is in.
+//! A ring with one chapter of its history, without hands: it requires that a record which is committed is busy, and its
+//! caller knows that from the hand that holds the record.
 
 ghost use Rattle.std.specs.Prelude.{◌≡◌, ◌≢◌, ◌+◌, ◌<◌, ◌≤◌, ◌^◌, ◌↔◌, ◌∷◌, [], ◌++◌, List, IsErrOf, IfOk, OnOk, OnErr, IfErr, length, replicate};
 ghost use Rattle.rb_history.specs.declared.entries.Entry.{Entry};
@@ -33,16 +34,17 @@ use rb_lend::Sheet;
 use std::alloc::Global;
 use std::marker::Model;
 
-/// One ring of records, for one thread. Contracts see its chapter, the bytes of its waiting records, and what it shows.
+/// A ring of records for one thread. Contracts see its chapter, the bytes of its waiting records, and what it shows.
 ///
-/// The records that are there are the chapter's, in the order of their grants. A record's ordinal is how many were granted before it; less the
-/// number of those that were taken it is the record's index. The bytes of a waiting record lie in the slot of its ordinal; there are as many
-/// slots as records may be there at once, and they go round.
+/// The untaken records are those of the chapter, in the order of their grants. A record's ordinal is the number of
+/// records that were granted before it; its index is its ordinal minus the number of records that were taken. The bytes
+/// of a waiting record are in the slot of its ordinal. There are as many slots as there can be records at once, and
+/// they are used as a circular buffer.
 #[derive(Drop)]
 pub(crate) struct ChapterState {
     chapter: Chapter,
     sheets: Vec<Sheet>,
-    // The refusals, of which it counts as many as 64 bits hold, and the discards. The other counts follow from the chapter.
+    // The refusals, saturating at `u64::MAX`, and the discards. The other counts follow from the chapter.
     refused: u64,
     discarded: u64,
 }
@@ -65,9 +67,11 @@ impl Model for ChapterState {
 }
 
 impl ChapterState {
-    /// A ring without records, of `size` bytes, whose positions begin at `start`, for `workers` workers, which keeps chapters of `room`
-    /// entries; or the first of `OpenFault`'s refusals that applies. It takes all memory that the ring will ever need: that of its first
-    /// chapter, and a slot for each record that may be there at once (a power of two).
+    /// Returns a ring without records, of `size` bytes, whose positions begin at `start`, for `workers` workers, with
+    /// chapters of `room` entries; or the first `OpenFault` that applies.
+    ///
+    /// Allocates all memory that the ring will ever need: that of its first chapter, and a slot for each record that
+    /// there can be at once (a power of two).
     pub(crate) fn new(
         alloc: Global,
         size: u64,
@@ -98,8 +102,9 @@ impl ChapterState {
     }
 
     #[inline(always)]
-    /// What holds of each ring: its chapter is legal from its opening, which a legal history stands for, and has room for all that it
-    /// owes; it is what the ring's state stands for; and the ring's numbers are within bounds.
+    /// States the invariant of a ring: its chapter is legal from its opening, which is the summary of a legal history,
+    /// and has room for the entries that it owes; the ring's state agrees with the chapter; and the ring's parameters
+    /// are within bounds.
     pub(crate) fn facts(&self)
         ensures kept { (earlier : List Entry) × IsKept earlier self.now.chapter }
         ensures stands { StandsForChapter self.now }
@@ -109,15 +114,16 @@ impl ChapterState {
     }
 
     #[inline(always)]
-    /// The chapter that the ring keeps.
+    /// Returns the chapter that the ring keeps.
     pub(crate) fn chapter(&self) -> &Chapter
         ensures chapter { result.now ≡ self.now.chapter }
     {
         &self.chapter
     }
 
-    /// The answers to a query (bpf-helpers(7), bpf_ringbuf_query): `AVAIL_DATA` asks for the bytes between the two
-    /// positions, `RING_SIZE`, `CONS_POS` and `PROD_POS` for what they name; any other number gives 0. In constant time.
+    /// Returns the answer to a query (bpf-helpers(7), bpf_ringbuf_query): the number of bytes between the two positions
+    /// for `AVAIL_DATA`, what they name for `RING_SIZE`, `CONS_POS` and `PROD_POS`, and 0 for any other number. Takes
+    /// constant time.
     pub(crate) fn query(&self, what: u64) -> u64
         ensures answer { result ≡ query_answer_from self.now.chapter.opening self.now.chapter.entries what }
     {
@@ -131,8 +137,8 @@ impl ChapterState {
         }
     }
 
-    /// The six counts of all that the ring ever did. In constant time. Of the refusals, which may be more than 64 bits hold, it tells
-    /// 2^64 - 1 at most.
+    /// Returns the six totals since the ring was opened. The refusal count saturates at `u64::MAX`. Takes constant
+    /// time.
     pub(crate) fn counts(&self) -> Counts
         ensures counts { result ≡ told_counts self.now }
     {
@@ -151,10 +157,13 @@ impl ChapterState {
     }
 
     #[inline(always)]
-    /// Grants worker `worker` a record of `n` bytes at the producer position, in a sheet of as many bytes, which become zeros, where
-    /// the ring has room for it and the chapter for all that it will log. `Full` is logged, where the ring has no room; `ChapterFull` changes
-    /// nothing. A refusal hands the sheet back. In constant time, but for the record's bytes, and without memory. (bpf-helpers(7),
-    /// bpf_ringbuf_reserve.)
+    /// Grants worker `worker` a record of `n` bytes, all zeros, at the producer position, if the ring has room for it
+    /// and the chapter for all entries that it will log. The record uses `sheet`, which must have `n` bytes and is
+    /// cleared. (bpf-helpers(7), bpf_ringbuf_reserve.)
+    ///
+    /// `Full` is logged: the ring has no room. `ChapterFull` changes nothing: the chapter has no room for the entries
+    /// that would be logged. A refusal returns the sheet. Takes constant time, except for clearing the bytes, and does
+    /// not allocate.
     pub(crate) fn reserve(
         &mut self,
         worker: u32,
@@ -184,9 +193,11 @@ impl ChapterState {
     }
 
     #[inline(always)]
-    /// The granted record, which stands at the index, comes to this end: its bytes are handed to the consumer, or the consumer passes over it.
-    /// It is busy, so there is no refusal. Of the flags only bits 0 and 1 are looked at. In constant time, and without memory. (bpf-helpers(7),
-    /// bpf_ringbuf_submit and bpf_ringbuf_discard.)
+    /// Commits the granted record, which is at this index, as `end` says: its bytes go to the consumer, or the consumer
+    /// will skip it. The record is busy, so it is never refused. (bpf-helpers(7), bpf_ringbuf_submit and
+    /// bpf_ringbuf_discard.)
+    ///
+    /// Only bits 0 and 1 of the flags are used. Takes constant time and does not allocate.
     pub(crate) fn settle(
         &mut self,
         index: usize,
@@ -208,9 +219,11 @@ impl ChapterState {
     }
 
     #[inline(always)]
-    /// Grants worker `worker` a record and submits it at once, with the sheet's bytes. Unknown flags are refused first, and
-    /// nothing is logged then; otherwise it refuses as `reserve` does. A refusal hands the sheet back. In constant time, and without
-    /// memory. (bpf-helpers(7), bpf_ringbuf_output.)
+    /// Grants worker `worker` a record with the sheet's bytes and submits it in the same call. (bpf-helpers(7),
+    /// bpf_ringbuf_output.)
+    ///
+    /// Refuses unknown flags first, which is not logged; otherwise it refuses as `reserve` does. A refusal returns the
+    /// sheet. Takes constant time and does not allocate.
     pub(crate) fn output(
         &mut self,
         worker: u32,
@@ -242,9 +255,11 @@ impl ChapterState {
     }
 
     #[inline(always)]
-    /// Takes the record at the consumer position: hands out a submitted one and passes over a discarded one. A busy one
-    /// stops it, whatever waits behind. In constant time, and without memory. (Linux Documentation/bpf/ringbuf.rst: records are
-    /// consumed in the order of their reservation.)
+    /// Takes the record at the consumer position: returns a submitted one, or skips a discarded one. A busy record
+    /// stops it, whatever waits after that record. (Linux Documentation/bpf/ringbuf.rst: records are consumed in the
+    /// order of their reservation.)
+    ///
+    /// Takes constant time and does not allocate.
     pub(crate) fn take(&mut self) -> Taken
         ensures same_chapter { IsSameChapter self.old self.new }
         ensures takes { TakesByChapter self.old self.new result }
@@ -272,7 +287,7 @@ impl ChapterState {
 
     #[cold]
     #[inline(never)]
-    // Logs that there is no room in the ring, where there is room for that in the chapter.
+    // Logs that the ring has no room, if the chapter has room for that entry.
     fn refuse(&mut self, worker: u32, n: u32) -> ReserveFault
         requires worker { worker < self.old.chapter.opening.setup.workers }
         requires full { ¬ ChapterRingHasRoom self.old n }
@@ -315,7 +330,7 @@ impl ChapterState {
     }
 
     #[inline(always)]
-    // The busy record at an index comes to this end; the sheet has its bytes.
+    // Commits the busy record at an index, as `end` says; `sheet` has its bytes.
     fn log_end(&mut self, index: usize, pos: u64, sheet: Sheet, end: RecordEnd)
         requires busy { IsBusyAt self.old.shown index pos (length sheet) }
         ensures logged { LogsByChapter self.old self.new (entry_of_end end pos ∷ []) }
@@ -330,7 +345,7 @@ impl ChapterState {
     }
 
     #[inline(always)]
-    /// How many records were taken.
+    /// Returns the number of records that were taken.
     pub(crate) fn taken(&self) -> u64
         ensures taken { result ≡ taken_before (closing_of self.now.chapter) }
     {
@@ -339,7 +354,7 @@ impl ChapterState {
     }
 
     #[inline(always)]
-    /// The ordinal of the record that is granted next.
+    /// Returns the ordinal of the record that is granted next.
     pub(crate) fn next_ordinal(&self) -> u64
         ensures ordinal { result ≡ taken_before (closing_of self.now.chapter) + length (closing_of self.now.chapter).records }
     {
@@ -348,7 +363,7 @@ impl ChapterState {
     }
 
     #[inline(always)]
-    // How many records are there.
+    // Returns the number of untaken records.
     fn many(&self) -> usize
         ensures many { result ≡ length self.now.shown }
     {
@@ -356,7 +371,7 @@ impl ChapterState {
     }
 
     #[inline(always)]
-    // Whether a notice is due for the record at `pos`.
+    // Returns whether a notification is due for the record at `pos`.
     fn notice(&self, pos: u64, flags: u64) -> Notice
         ensures due { (result ≡ Notice.Due) ↔ IsDue (consumer_by_chapter self.now) pos flags }
     {

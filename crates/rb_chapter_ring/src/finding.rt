@@ -1,4 +1,4 @@
-//! Where a record is found, and where its bytes are kept.
+//! The slots of records, which hold their bytes.
 
 ghost use Rattle.std.specs.Prelude.{◌≡◌, ◌<◌, ◌%◌, IfSome, IfNone, length, map, slice_index_or};
 ghost use Rattle.std.specs.Int.{IsPowerOfTwo};
@@ -11,7 +11,7 @@ use crate::record_end::RecordEnd;
 use rb_lend::Sheet;
 
 #[inline(always)]
-/// The slot of a record that so many were granted before.
+/// Returns the slot of the record with this ordinal.
 pub(crate) fn slot_in(slots: usize, ordinal: u64) -> usize
     requires slots { IsPowerOfTwo slots }
     ensures value { result ≡ ordinal % slots }
@@ -21,7 +21,7 @@ pub(crate) fn slot_in(slots: usize, ordinal: u64) -> usize
 }
 
 #[inline(always)]
-/// The record at the front, if there is one.
+/// Returns the record at the front, if there is one.
 pub(crate) fn find_front(records: &[UntakenRecord]) -> Option<UntakenRecord>
     ensures front { IfSome result (λ r. (0 < length records.now) × (untaken_shown r ≡ slice_index_or (map untaken_shown records.now) 0 no_record)) }
     ensures none { IfNone result (length records.now ≡ 0) }
@@ -33,7 +33,7 @@ pub(crate) fn find_front(records: &[UntakenRecord]) -> Option<UntakenRecord>
 }
 
 #[inline(always)]
-/// Keeps the bytes of a record in its slot, where it is submitted.
+/// Stores the bytes of a record in its slot if it is submitted.
 pub(crate) fn keep_bytes(sheets: &mut Vec<Sheet>, slot: usize, sheet: Sheet, end: RecordEnd)
     requires slot { slot < length sheets.old.items }
     ensures kept { sheets.new.items ≡ slots_with_end end slot sheet sheets.old.items }

@@ -6,7 +6,7 @@ ghost use Rattle.rb_history.specs.ReservationModel.{Granted};
 use rb_lend::Sheet;
 use std::marker::Model;
 
-/// A granted record's numbers, and its bytes. A reservation has it, with the ring's tag and the worker's hand.
+/// The numbers and the bytes of a granted record. A reservation contains it, with the ring's tag and the worker's hand.
 #[derive(Drop)]
 pub(crate) struct Grant {
     pub(crate) pos: u64,
@@ -24,7 +24,7 @@ impl Model for Grant {
 }
 
 impl Grant {
-    /// The grant of a record at a position, to this worker under this serial, as long as the sheet.
+    /// Returns the grant of a record with these numbers, whose length is that of the sheet.
     pub(crate) fn new(pos: u64, worker: u32, serial: u64, sheet: Sheet) -> Grant
         ensures parts { result ≡ record { pos = pos; worker = worker; serial = serial; bytes = sheet } }
     {
@@ -36,35 +36,35 @@ impl Grant {
         }
     }
 
-    /// The record's position, in bytes.
+    /// Returns the record's position, in bytes.
     pub(crate) fn pos(&self) -> u64
         ensures value { result ≡ self.now.pos }
     {
         self.pos
     }
 
-    /// The number of the worker that the record was granted to.
+    /// Returns the number of the worker to which the record was granted.
     pub(crate) fn worker(&self) -> u32
         ensures value { result ≡ self.now.worker }
     {
         self.worker
     }
 
-    /// How many records this ring granted that worker before.
+    /// Returns the number of records that this ring had granted to that worker before.
     pub(crate) fn serial(&self) -> u64
         ensures value { result ≡ self.now.serial }
     {
         self.serial
     }
 
-    /// The record's length in bytes.
+    /// Returns the record's length in bytes.
     pub(crate) fn len(&self) -> u32
         ensures value { result ≡ length self.now.bytes }
     {
         self.sheet.len()
     }
 
-    /// The record's sheet, with the bytes that were written.
+    /// Returns the record's sheet, with the bytes that were written.
     pub(crate) fn into_sheet(self) -> Sheet
         ensures value { result ≡ self.bytes }
     {

@@ -33,12 +33,12 @@ use rb_lend::Sheet;
 use std::alloc::Global;
 use std::marker::Model;
 
-/// A ring, and which record is out in which hand of each worker.
+/// A ring, and the record in each hand of each worker.
 #[derive(Drop)]
 pub struct HandState {
     pub(crate) ring: ChapterState,
     pub(crate) hands: Vec<[Option<OutRecord>; 4]>,
-    // How many records had been granted before the one that is out in a hand: less those that were taken it is its index.
+    // The ordinal of the record in each hand: its index is its ordinal minus the number of records that were taken.
     pub(crate) ordinals: Vec<[u64; 4]>,
 }
 
@@ -61,7 +61,7 @@ impl Model for HandState {
 }
 
 impl HandState {
-    /// A ring without records, whose hands are free; it refuses as `RingState::new`.
+    /// Returns a ring without records, whose hands are free. It refuses as `RingState::new` does.
     pub fn new(
         alloc: Global,
         size: u64,
@@ -90,7 +90,7 @@ impl HandState {
     }
 
     #[inline(always)]
-    /// The chapter that the ring keeps.
+    /// Returns the chapter that the ring keeps.
     pub fn chapter(&self) -> &Chapter
         ensures chapter { result.now ≡ self.now.ring.chapter }
     {
@@ -98,7 +98,7 @@ impl HandState {
     }
 
     #[inline(always)]
-    /// Grants worker `worker` a record and submits it at once; it needs no hand.
+    /// Grants worker `worker` a record and submits it in the same call. It needs no hand.
     pub fn output(
         &mut self,
         worker: u32,
@@ -134,8 +134,9 @@ impl HandState {
         self.ring.take()
     }
 
-    /// Takes up to `n` records, as so many calls of `take`, pushes each that was handed out or passed over onto `out`, and returns how many they
-    /// are. It stops before the first take that finds a busy record or none. It takes no memory.
+    /// Takes up to `n` records, as `n` calls of `take`, and pushes each that was returned or skipped onto `out`.
+    /// Returns how many these are. It stops before the first take that finds a busy record or no record. Does not
+    /// allocate.
     pub fn take_many(&mut self, n: usize, out: &mut Vec<Taken>) -> usize
         requires room { vec_len out.old + n ≤ vec_capacity out.old }
         ensures same_chapter { IsSameChapter self.old.ring self.new.ring }
@@ -150,7 +151,7 @@ impl HandState {
         self.ring.take_many(n, out)
     }
 
-    /// Hands the chapter out as it is, and goes on in `empty`.
+    /// Hands out the chapter as it is. The ring continues in `empty`.
     pub fn hand_out(&mut self, empty: Chapter) -> Result<Chapter, Chapter>
         ensures handed_out { IfOk result (λ out. HandsOut self.old.ring self.new.ring out) }
         ensures unchanged { OnErr result (self.new ≡ self.old) }
@@ -164,7 +165,7 @@ impl HandState {
     }
 
     #[inline(always)]
-    /// The worker's lowest free hand, if one is free. In constant time.
+    /// Returns the worker's lowest free hand, if one is free. Takes constant time.
     pub fn free_hand(&self, worker: u32) -> Option<u32>
         requires worker { worker < self.now.ring.chapter.opening.setup.workers }
         ensures free { IfSome result (λ hand. IsLowestFree (hands_of self.now.hands worker) hand) }
@@ -174,7 +175,7 @@ impl HandState {
     }
 
     #[inline(always)]
-    /// Whether the reservation's record is out in its hand. In constant time.
+    /// Returns whether the reservation's record is in its hand. Takes constant time.
     pub fn is_out(&self, reservation: &Reservation) -> bool
         ensures exact { IsTrue result ↔ HasInHand self.now reservation.now.hand reservation.now.granted }
     {
@@ -183,7 +184,7 @@ impl HandState {
     }
 
     #[inline(always)]
-    /// What holds of each ring; and its book of hands is that of its busy records.
+    /// States the invariant of a ring, and that its book of hands is that of its busy records.
     pub fn facts(&self)
         ensures kept { (earlier : List Entry) × IsKept earlier self.now.ring.chapter }
         ensures stands { StandsForChapter self.now.ring }
@@ -194,9 +195,12 @@ impl HandState {
     }
 
     #[inline(always)]
-    /// Grants worker `worker` a record of `n` bytes at the producer position into this hand, in a sheet of as many bytes, which become zeros, for a ring
-    /// with this tag. It refuses as `RingState::reserve`, and hands the sheet back then. In constant time, but for the record's bytes, and without
-    /// memory. (bpf-helpers(7), bpf_ringbuf_reserve.)
+    /// Grants worker `worker` a record of `n` bytes, all zeros, at the producer position into this hand, for a ring
+    /// with this tag. The record uses `sheet`, which must have `n` bytes and is cleared. (bpf-helpers(7),
+    /// bpf_ringbuf_reserve.)
+    ///
+    /// Refuses as `RingState::reserve` does, and then returns the sheet. Takes constant time, except for clearing the
+    /// bytes, and does not allocate.
     pub fn reserve(
         &mut self,
         tag: u64,
@@ -239,9 +243,11 @@ impl HandState {
     }
 
     #[inline(always)]
-    /// The reservation's record comes to this end, so that the consumer takes its bytes or passes over it, and its hand is free. It is out in that
-    /// hand, so it is busy: there is no refusal. Of the flags only bits 0 and 1 are looked at. In constant time, and without memory.
-    /// (bpf-helpers(7), bpf_ringbuf_submit and bpf_ringbuf_discard.)
+    /// Commits the reservation's record as `end` says, so that the consumer takes its bytes or skips it, and frees its
+    /// hand. The record is in that hand, so it is busy and never refused. (bpf-helpers(7), bpf_ringbuf_submit and
+    /// bpf_ringbuf_discard.)
+    ///
+    /// Only bits 0 and 1 of the flags are used. Takes constant time and does not allocate.
     pub fn settle(&mut self, reservation: Reservation, end: RecordEnd, flags: u64) -> Notice
         requires out { HasInHand self.old reservation.hand reservation.granted }
         ensures same_chapter { IsSameChapter self.old.ring self.new.ring }
@@ -259,7 +265,7 @@ impl HandState {
     }
 
     #[inline(always)]
-    // The index of the record that is out in the hand, among those that are there.
+    // Returns the index of the record in the hand, among the untaken ones.
     fn index_in(&self, hand: u32, grant: &Grant) -> usize
         requires out { HasInHand self.now hand grant.now }
         ensures here { IsBusyAt self.now.ring.shown result grant.now.pos (length grant.now.bytes) }
@@ -271,14 +277,14 @@ impl HandState {
     }
 
     #[inline(always)]
-    /// The answers to a query (bpf-helpers(7), bpf_ringbuf_query), as `RingState::query` gives them.
+    /// Returns the answer to a query (bpf-helpers(7), bpf_ringbuf_query), as `RingState::query` does.
     pub fn query(&self, what: u64) -> u64
         ensures answer { result ≡ query_answer_from self.now.ring.chapter.opening self.now.ring.chapter.entries what }
     {
         self.ring.query(what)
     }
 
-    /// The six counts of all that the ring ever did, as `RingState::counts` tells them.
+    /// Returns the six totals since the ring was opened, as `RingState::counts` does.
     pub fn counts(&self) -> Counts
         ensures counts { result ≡ told_counts self.now.ring }
     {

@@ -8,7 +8,7 @@ use crate::OutRecord;
 use std::alloc::{AllocError, Global};
 
 #[inline(always)]
-/// Puts this into a worker's hand.
+/// Sets a worker's hand.
 pub(crate) fn set_hand(
     book: &mut Vec<[Option<OutRecord>; 4]>,
     worker: u32,
@@ -23,7 +23,7 @@ pub(crate) fn set_hand(
     hands[hand as usize] = now;
 }
 
-/// Free hands for so many workers.
+/// Returns free hands for this number of workers.
 pub(crate) fn free_table(
     alloc: Global,
     workers: u32,
@@ -34,7 +34,7 @@ pub(crate) fn free_table(
 }
 
 #[inline(always)]
-/// Puts an ordinal in a worker's hand's place.
+/// Sets the ordinal of a worker's hand.
 pub(crate) fn set_ordinal(table: &mut Vec<[u64; 4]>, worker: u32, hand: u32, ordinal: u64)
     requires worker { worker < length table.old.items }
     requires hand { hand < 4 }
@@ -44,7 +44,7 @@ pub(crate) fn set_ordinal(table: &mut Vec<[u64; 4]>, worker: u32, hand: u32, ord
     row[hand as usize] = ordinal;
 }
 
-/// A row of four for each of so many workers.
+/// Returns a row of four ordinals for each worker.
 pub(crate) fn no_ordinals(alloc: Global, workers: u32) -> Result<Vec<[u64; 4]>, AllocError>
     ensures rows { IfOk result (λ table. table.items ≡ replicate workers (replicate 4 0)) }
 {

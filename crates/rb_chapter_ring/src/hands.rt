@@ -5,7 +5,7 @@ ghost use Rattle.rb_chapter_ring.specs.Hands.{AreAllOut, IsLowestFree};
 
 use crate::out_record::OutRecord;
 
-/// The lowest free hand of a worker's four, if one is free.
+/// Returns the lowest free one of a worker's four hands, if one is free.
 pub fn lowest_free(hands: &[Option<OutRecord>]) -> Option<u32>
     requires four { length hands.now ≡ 4 }
     ensures free { IfSome result (λ h. IsLowestFree hands.now h) }

@@ -1,12 +1,16 @@
-//! A BPF ring buffer for one thread whose memory does not grow, as Linux Documentation/bpf/ringbuf.rst and bpf-helpers(7) have it. It
-//! keeps one chapter of its history at a time, and takes all its memory where it is made.
+//! A BPF ring buffer for one thread whose memory does not grow, after Linux Documentation/bpf/ringbuf.rst and
+//! bpf-helpers(7). It keeps one chapter (a bounded segment) of its history at a time, and allocates everything when it
+//! is created.
 //!
-//! Proved: each call adds its entries to the chapter and answers by the chapter alone, the chapter stays legal from its opening with room
-//! for all that it owes, and it is what the ring's state stands for (`RingState::facts`). A chapter that is handed out meets the next
-//! one, so that chapters join to one legal history (`chapters_join`). Each busy record is in one of its worker's four hands, and one that is in a
-//! hand is submitted or discarded without a refusal. `rb_for_tests` has the plain twin over a whole history, for tests.
+//! Proved: each call adds its entries to the chapter, and its result depends only on the chapter. The chapter remains
+//! legal from its opening, with room for all entries that it owes, and the ring's state is the one that the chapter
+//! determines (`RingState::facts`). A chapter that is handed out meets the next one, so that chapters join to one legal
+//! history (`chapters_join`). Each busy record is in one of its worker's four hands (slots for records in flight), and
+//! a record that is in a hand can be submitted or discarded without a refusal. For tests, `rb_for_tests` has a ring
+//! with the same calls that keeps its whole history.
 //!
-//! `RingState` is the ring for one thread; its reservations name its tag. `HandState` is what a shared ring keeps under its lock.
+//! `RingState` is the ring for one thread; its reservations name its tag. `HandState` is the state that a shared ring
+//! keeps under its lock.
 //!
 //! ```text
 //! let mut ring = RingState::new(rt.alloc(), 7, 4096, 0, 1, 8)?;
@@ -24,13 +28,16 @@
 //!
 //! # Chapters
 //!
-//! A ring's history is cut into numbered chapters, and what a chapter begins with stands for all that came before it. `Chapter` is a chapter as
-//! a value: its number, its opening (`specs/Standing.antt`: both positions, the records that were not taken, and the totals so
-//! far) and its entries (`specs/Chapters.antt` has a drawing). `specs/CountedFrom.antt` says what entries mean that are counted from an
-//! opening, `specs/ChapterRoom.antt` how many a chapter has room for, and `specs/ChapterCalls.antt` what each call adds. The definitions over
-//! a whole history stay those of `rb_history`, and `specs/WholeHistory.antt` ties the two: what is counted from an opening is
-//! what the whole history says (`counted_from_the_opening`), chapters that meet join to one legal history (`chapters_join`), a chapter's room
-//! is kept (`room_is_kept`), and each call by its chapter is the call over the whole history (`calls_are_alike`).
+//! A ring's history is divided into numbered chapters, and a chapter's opening is a summary of everything before it.
+//! `Chapter` is a chapter as a value: its number, its opening (`specs/Standing.antt`: both positions, the records that
+//! were not taken, and the totals so far) and its entries (`specs/Chapters.antt` has a drawing).
+//! `specs/CountedFrom.antt` defines what entries mean when they are counted from an opening, `specs/ChapterRoom.antt`
+//! how many a chapter has room for, and `specs/ChapterCalls.antt` what each call adds.
+//!
+//! The definitions over a whole history are those of `rb_history`, and `specs/WholeHistory.antt` relates the two: what
+//! is counted from an opening agrees with the whole history (`counted_from_the_opening`), chapters that meet join to
+//! one legal history (`chapters_join`), a chapter's room is preserved (`room_is_kept`), and each call by its chapter is
+//! the call over the whole history (`calls_are_alike`).
 //!
 //! ```text
 //! size 4096, room 8           used  owed
@@ -44,10 +51,11 @@
 //!
 //! # Hands
 //!
-//! The ring has a book of hands beside its chapter (`specs/HandRing.antt`): for each worker and each hand, 0 to 3, a record's
-//! position, serial and length, or nothing. The book's positions are exactly the busy records, each once, and each under its own worker
-//! (`specs/Hands.antt`). A grant marks a free hand, a submit or a discard frees it, and all else leaves the book (`each_call_keeps_hands`).
-//! So a record that is in a hand is busy, and giving it back can't be refused.
+//! The ring has a book of hands beside its chapter (`specs/HandRing.antt`): for each worker and each hand, 0 to 3, a
+//! record's position, serial and length, or nothing. The book's positions are exactly those of the busy records, each
+//! once, and each under its own worker (`specs/Hands.antt`). A grant marks a free hand, a submit or a discard frees it,
+//! and nothing else changes the book (`each_call_keeps_hands`). So a record that is in a hand is busy, and committing
+//! it can't be refused.
 //!
 //! ```text
 //! two workers                                    hands of 0       hands of 1

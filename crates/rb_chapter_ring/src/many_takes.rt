@@ -10,10 +10,12 @@ use crate::chapter_state::ChapterState;
 use rb_history::Taken;
 
 impl ChapterState {
-    /// Takes up to `n` records, as so many calls of `take`, pushes each that was handed out or passed over onto `out`, and returns how
-    /// many they are. It stops before the first take that finds a busy record or none, so it pushes neither `BusyFront` nor `Empty`. It
-    /// takes no memory, and constant time for each record. (Linux Documentation/bpf/ringbuf.rst: records are consumed in the order of their
+    /// Takes up to `n` records, as `n` calls of `take`, and pushes each that was returned or skipped onto `out`.
+    /// Returns how many these are. (Linux Documentation/bpf/ringbuf.rst: records are consumed in the order of their
     /// reservation.)
+    ///
+    /// It stops before the first take that finds a busy record or no record, so it pushes neither `BusyFront` nor
+    /// `Empty`. Takes constant time for each record and does not allocate.
     pub(crate) fn take_many(&mut self, n: usize, out: &mut Vec<Taken>) -> usize
         requires room { vec_len out.old + n ≤ vec_capacity out.old }
         ensures same_chapter { IsSameChapter self.old self.new }

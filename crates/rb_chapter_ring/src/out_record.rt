@@ -1,12 +1,12 @@
-//! What a hand holds.
+//! The contents of a hand.
 
-/// A record that is out in a hand: it was granted, and not submitted or discarded since.
+/// A record in a hand: it was granted, and neither submitted nor discarded since.
 #[derive(Clone, Copy, Debug, PartialEq, Eq)]
 pub struct OutRecord {
-    /// Its position.
+    /// The position of the record.
     pub pos: u64,
-    /// Its serial among its worker's records.
+    /// The serial of the record among its worker's records.
     pub serial: u64,
-    /// Its length in bytes.
+    /// The length of the record in bytes.
     pub len: u32,
 }

@@ -1,4 +1,4 @@
-//! How a worker gives a record back.
+//! The two ways in which a worker commits a record.
 
 ghost use Rattle.std.specs.Prelude.{◌≡◌};
 ghost use Rattle.rb_chapter_ring.specs.UntakenRecords.{status_shown};
@@ -7,18 +7,18 @@ ghost use Rattle.rb_chapter_ring.specs.RecordEnds.{entry_of_end, status_of_end};
 use crate::UntakenStatus;
 use rb_history::Entry;
 
-/// What becomes of a record that is given back: the argument `discard` of bpf_ringbuf_commit (Linux kernel/bpf/ringbuf.c).
+/// What a commit does with the record: the argument `discard` of bpf_ringbuf_commit (Linux kernel/bpf/ringbuf.c).
 #[derive(Clone, Copy, PartialEq, Eq)]
 pub enum RecordEnd {
     /// The consumer takes its bytes.
     Submit,
-    /// The consumer passes over it.
+    /// The consumer skips it.
     Discard,
 }
 
 impl RecordEnd {
     #[inline(always)]
-    /// What an untaken record is after it.
+    /// Returns the status of an untaken record after this commit.
     pub(crate) fn status(self) -> UntakenStatus
         ensures status { status_shown result ≡ status_of_end self }
     {
@@ -29,7 +29,7 @@ impl RecordEnd {
     }
 
     #[inline(always)]
-    /// What is logged of the record at this position.
+    /// Returns the entry that is logged for the record at this position.
     pub(crate) fn entry(self, pos: u64) -> Entry
         ensures entry { result ≡ entry_of_end self pos }
     {

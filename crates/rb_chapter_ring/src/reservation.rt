@@ -1,4 +1,4 @@
-//! What a worker holds of a record that it was granted.
+//! What a worker holds for a record that was granted to it.
 
 ghost use Rattle.std.specs.Prelude.{◌≡◌, ◌↔◌, IsTrue, Some, length};
 ghost use Rattle.rb_chapter_ring.specs.Hands.{in_hand, out_record};
@@ -8,9 +8,11 @@ use crate::grant::Grant;
 use rb_lend::Lent;
 use std::marker::Model;
 
-/// The right to write a record's bytes, and to submit or discard it, at the ring with this tag and from this hand of its worker. Rings alone make
-/// one, where they grant a record. Dropped without a submit or a discard, its record stays busy and its hand out. (Linux
-/// Documentation/bpf/ringbuf.rst: a reserved record is committed or discarded.)
+/// The right to write a record's bytes, and to submit or discard it, at the ring with this tag and from this hand of
+/// its worker. Only rings create reservations, when they grant a record. (Linux Documentation/bpf/ringbuf.rst: a
+/// reserved record is committed or discarded.)
+///
+/// If it is dropped without a submit or a discard, its record remains busy and its hand occupied.
 #[derive(Drop)]
 pub struct Reservation {
     pub(crate) tag: u64,
@@ -28,7 +30,7 @@ impl Model for Reservation {
 
 impl Reservation {
     #[inline(always)]
-    /// The number of the ring that granted the record, as its opener gave it.
+    /// Returns the tag of the ring that granted the record.
     pub fn tag(&self) -> u64
         ensures tag { result ≡ self.now.tag }
     {
@@ -36,7 +38,7 @@ impl Reservation {
     }
 
     #[inline(always)]
-    /// The hand of its worker in which the record is out, 0 to 3.
+    /// Returns the hand of its worker that holds the record, 0 to 3.
     pub fn hand(&self) -> u32
         ensures hand { result ≡ self.now.hand }
     {
@@ -44,7 +46,7 @@ impl Reservation {
     }
 
     #[inline(always)]
-    /// The record's position, in bytes.
+    /// Returns the record's position, in bytes.
     pub fn pos(&self) -> u64
         ensures pos { result ≡ self.now.granted.pos }
     {
@@ -52,7 +54,7 @@ impl Reservation {
     }
 
     #[inline(always)]
-    /// The number of the worker that the record was granted to.
+    /// Returns the number of the worker to which the record was granted.
     pub fn worker(&self) -> u32
         ensures worker { result ≡ self.now.granted.worker }
     {
@@ -60,7 +62,7 @@ impl Reservation {
     }
 
     #[inline(always)]
-    /// How many records this ring granted that worker before.
+    /// Returns the number of records that this ring had granted to that worker before.
     pub fn serial(&self) -> u64
         ensures serial { result ≡ self.now.granted.serial }
     {
@@ -68,7 +70,7 @@ impl Reservation {
     }
 
     #[inline(always)]
-    /// The record's length in bytes.
+    /// Returns the record's length in bytes.
     pub fn len(&self) -> u32
         ensures len { result ≡ length self.now.granted.bytes }
     {
@@ -76,7 +78,8 @@ impl Reservation {
     }
 
     #[inline(always)]
-    /// Whether, of a worker's four hands, the one that it names is out with its position, serial and length.
+    /// Returns whether, of a worker's four hands, the one that the reservation names holds a record with its position,
+    /// serial and length.
     pub fn is_in(&self, hands: &[Option<OutRecord>]) -> bool
         requires four { length hands.now ≡ 4 }
         ensures exact { IsTrue result ↔ (in_hand hands.now self.now.hand ≡ Some (out_record self.now.granted.pos self.now.granted.serial (length self.now.granted.bytes))) }

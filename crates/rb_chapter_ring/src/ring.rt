@@ -1,4 +1,4 @@
-//! One ring, for one thread.
+//! A ring for one thread.
 
 ghost use Rattle.std.specs.Prelude.{List, ◌≡◌, ◌≢◌, ◌<◌, ◌≤◌, ◌+◌, ◌++◌, ◌↔◌, IfOk, IfErr, IfSome, IfNone, IsErrOf, IsOk, IsTrue, OnOk, OnErr, length, replicate, vec_len, vec_capacity};
 ghost use Rattle.rb_history.specs.RingModel.{IsRingSize, IsStartPosition, IsWorkerCount};
@@ -30,8 +30,8 @@ use rb_lend::Sheet;
 use std::alloc::Global;
 use std::marker::Model;
 
-/// One ring of records, for one thread, whose reservations name its tag. Contracts see its tag, its chapter, the bytes of its waiting records, what
-/// it shows, and its book of hands.
+/// A ring of records for one thread, whose reservations name its tag. Contracts see its tag, its chapter, the bytes of
+/// its waiting records, what it shows, and its book of hands.
 #[derive(Drop)]
 pub struct RingState {
     tag: u64,
@@ -54,10 +54,11 @@ impl Model for RingState {
 }
 
 impl RingState {
-    /// A ring without records whose reservations name `tag`, of `size` bytes, whose positions begin at `start`, for `workers` workers, which keeps
-    /// chapters of `room` entries; or the first of `OpenFault`'s refusals that applies. It takes all memory that the ring will ever need: that
-    /// of its first chapter, a slot for each record that may be there at once (a power of two), and for each worker four hands, which are free,
-    /// with 32 bytes each.
+    /// Returns a ring without records whose reservations name `tag`, of `size` bytes, whose positions begin at `start`,
+    /// for `workers` workers, with chapters of `room` entries; or the first `OpenFault` that applies.
+    ///
+    /// Allocates all memory that the ring will ever need: that of its first chapter, a slot for each record that there
+    /// can be at once (a power of two), and for each worker four free hands, with 32 bytes each.
     pub fn new(
         alloc: Global,
         tag: u64,
@@ -78,7 +79,7 @@ impl RingState {
     }
 
     #[inline(always)]
-    /// The number of the ring, as its opener gave it.
+    /// Returns the ring's tag.
     pub fn tag(&self) -> u64
         ensures tag { result ≡ self.now.tag }
     {
@@ -86,8 +87,9 @@ impl RingState {
     }
 
     #[inline(always)]
-    /// What holds of each ring: its chapter is legal from its opening, which a legal history stands for, and has room for all that it owes; it is
-    /// what the ring's state stands for; the ring's numbers are within bounds; and its book of hands is that of its busy records.
+    /// States the invariant of a ring: its chapter is legal from its opening, which is the summary of a legal history,
+    /// and has room for the entries that it owes; the ring's state agrees with the chapter; the ring's parameters are
+    /// within bounds; and its book of hands is that of its busy records.
     pub fn facts(&self)
         ensures kept { (earlier : List Entry) × IsKept earlier self.now.state.ring.chapter }
         ensures stands { StandsForChapter self.now.state.ring }
@@ -98,23 +100,24 @@ impl RingState {
     }
 
     #[inline(always)]
-    /// The chapter that the ring keeps.
+    /// Returns the chapter that the ring keeps.
     pub fn chapter(&self) -> &Chapter
         ensures chapter { result.now ≡ self.now.state.ring.chapter }
     {
         self.state.chapter()
     }
 
-    /// The answers to a query (bpf-helpers(7), bpf_ringbuf_query): `AVAIL_DATA` asks for the bytes between the two positions, `RING_SIZE`,
-    /// `CONS_POS` and `PROD_POS` for what they name; any other number gives 0. In constant time.
+    /// Returns the answer to a query (bpf-helpers(7), bpf_ringbuf_query): the number of bytes between the two positions
+    /// for `AVAIL_DATA`, what they name for `RING_SIZE`, `CONS_POS` and `PROD_POS`, and 0 for any other number. Takes
+    /// constant time.
     pub fn query(&self, what: u64) -> u64
         ensures answer { result ≡ query_answer_from self.now.state.ring.chapter.opening self.now.state.ring.chapter.entries what }
     {
         self.state.query(what)
     }
 
-    /// The six counts of all that the ring ever did. In constant time. Of the refusals, which may be more than 64 bits hold, it tells 2^64 - 1 at
-    /// most.
+    /// Returns the six totals since the ring was opened. The refusal count saturates at `u64::MAX`. Takes constant
+    /// time.
     pub fn counts(&self) -> Counts
         ensures counts { result ≡ told_counts self.now.state.ring }
     {
@@ -122,7 +125,7 @@ impl RingState {
     }
 
     #[inline(always)]
-    /// The worker's lowest free hand, if one is free. In constant time.
+    /// Returns the worker's lowest free hand, if one is free. Takes constant time.
     pub fn free_hand(&self, worker: u32) -> Option<u32>
         requires worker { worker < self.now.state.ring.chapter.opening.setup.workers }
         ensures free { IfSome result (λ hand. IsLowestFree (hands_of self.now.state.hands worker) hand) }
@@ -132,8 +135,8 @@ impl RingState {
     }
 
     #[inline(always)]
-    /// Whether the reservation's record is out in its hand, so that it may be submitted or discarded. For callers that know no more of it. In
-    /// constant time.
+    /// Returns whether the reservation's record is in its hand, so that it may be submitted or discarded. For callers
+    /// that do not know this otherwise. Takes constant time.
     pub fn is_out(&self, reservation: &Reservation) -> bool
         ensures exact { IsTrue result ↔ HasInHand self.now.state reservation.now.hand reservation.now.granted }
     {
@@ -141,10 +144,13 @@ impl RingState {
     }
 
     #[inline(always)]
-    /// Grants worker `worker` a record of `n` bytes at the producer position into this hand, in a sheet of as many bytes, which become zeros, where
-    /// the ring has room for it and the chapter for all that it will log. `Full` is logged, where the ring has no room; `ChapterFull` changes
-    /// nothing. A refusal hands the sheet back. In constant time, but for the record's bytes, and without memory. (bpf-helpers(7),
-    /// bpf_ringbuf_reserve.)
+    /// Grants worker `worker` a record of `n` bytes, all zeros, at the producer position into this hand, if the ring
+    /// has room for it and the chapter for all entries that it will log. The record uses `sheet`, which must have `n`
+    /// bytes and is cleared. (bpf-helpers(7), bpf_ringbuf_reserve.)
+    ///
+    /// `Full` is logged: the ring has no room. `ChapterFull` changes nothing: the chapter has no room for the entries
+    /// that would be logged. A refusal returns the sheet. Takes constant time, except for clearing the bytes, and does
+    /// not allocate.
     pub fn reserve(
         &mut self,
         worker: u32,
@@ -172,8 +178,10 @@ impl RingState {
     }
 
     #[inline(always)]
-    /// Hands the reservation's bytes to the consumer, and frees its hand. It is out in that hand, so it is busy: there is no refusal. Of the flags
-    /// only bits 0 and 1 are looked at. In constant time, and without memory. (bpf-helpers(7), bpf_ringbuf_submit.)
+    /// Submits the reservation's record, so that the consumer can take it with its bytes, and frees its hand. The
+    /// record is in that hand, so it is busy and never refused. (bpf-helpers(7), bpf_ringbuf_submit.)
+    ///
+    /// Only bits 0 and 1 of the flags are used. Takes constant time and does not allocate.
     pub fn submit(&mut self, reservation: Reservation, flags: u64) -> Notice
         requires out { HasInHand self.old.state reservation.hand reservation.granted }
         ensures same_tag { self.new.tag ≡ self.old.tag }
@@ -185,8 +193,10 @@ impl RingState {
     }
 
     #[inline(always)]
-    /// Gives the reservation's record up, so that the consumer passes over it, and frees its hand. It is out in that hand, so it is busy: there is
-    /// no refusal. Of the flags only bits 0 and 1 are looked at. In constant time, and without memory. (bpf-helpers(7), bpf_ringbuf_discard.)
+    /// Discards the reservation's record, so that the consumer skips it, and frees its hand. The record is in that
+    /// hand, so it is busy and never refused. (bpf-helpers(7), bpf_ringbuf_discard.)
+    ///
+    /// Only bits 0 and 1 of the flags are used. Takes constant time and does not allocate.
     pub fn discard(&mut self, reservation: Reservation, flags: u64) -> Notice
         requires out { HasInHand self.old.state reservation.hand reservation.granted }
         ensures same_tag { self.new.tag ≡ self.old.tag }
@@ -198,8 +208,10 @@ impl RingState {
     }
 
     #[inline(always)]
-    /// Ends the reservation's record as `submit` or as `discard`, and frees its hand. It is out in that hand, so it is busy: there is no refusal. Of
-    /// the flags only bits 0 and 1 are looked at. In constant time, and without memory. (Linux kernel/bpf/ringbuf.c, bpf_ringbuf_commit.)
+    /// Submits or discards the reservation's record, as `end` says, and frees its hand. The record is in that hand, so
+    /// it is busy and never refused. (Linux kernel/bpf/ringbuf.c, bpf_ringbuf_commit.)
+    ///
+    /// Only bits 0 and 1 of the flags are used. Takes constant time and does not allocate.
     pub fn settle(&mut self, reservation: Reservation, end: RecordEnd, flags: u64) -> Notice
         requires out { HasInHand self.old.state reservation.hand reservation.granted }
         ensures same_tag { self.new.tag ≡ self.old.tag }
@@ -211,9 +223,11 @@ impl RingState {
     }
 
     #[inline(always)]
-    /// Grants worker `worker` a record and submits it at once, with the sheet's bytes; it needs no hand. Unknown flags are refused first, and nothing
-    /// is logged then; otherwise it refuses as `reserve` does. A refusal hands the sheet back. In constant time, and without memory.
+    /// Grants worker `worker` a record with the sheet's bytes and submits it in the same call. It needs no hand.
     /// (bpf-helpers(7), bpf_ringbuf_output.)
+    ///
+    /// Refuses unknown flags first, which is not logged; otherwise it refuses as `reserve` does. A refusal returns the
+    /// sheet. Takes constant time and does not allocate.
     pub fn output(
         &mut self,
         worker: u32,
@@ -235,8 +249,11 @@ impl RingState {
     }
 
     #[inline(always)]
-    /// Takes the record at the consumer position: hands out a submitted one and passes over a discarded one. A busy one stops it, whatever waits
-    /// behind. In constant time, and without memory. (Linux Documentation/bpf/ringbuf.rst: records are consumed in the order of their reservation.)
+    /// Takes the record at the consumer position: returns a submitted one, or skips a discarded one. A busy record
+    /// stops it, whatever waits after that record. (Linux Documentation/bpf/ringbuf.rst: records are consumed in the
+    /// order of their reservation.)
+    ///
+    /// Takes constant time and does not allocate.
     pub fn take(&mut self) -> Taken
         ensures same_tag { self.new.tag ≡ self.old.tag }
         ensures same_chapter { IsSameChapter self.old.state.ring self.new.state.ring }
@@ -248,9 +265,12 @@ impl RingState {
         self.state.take()
     }
 
-    /// Takes up to `n` records, as so many calls of `take`, pushes each that was handed out or passed over onto `out`, and returns how many they
-    /// are. It stops before the first take that finds a busy record or none, so it pushes neither `BusyFront` nor `Empty`. It takes no memory, and
-    /// constant time for each record. (Linux Documentation/bpf/ringbuf.rst: records are consumed in the order of their reservation.)
+    /// Takes up to `n` records, as `n` calls of `take`, and pushes each that was returned or skipped onto `out`.
+    /// Returns how many these are. (Linux Documentation/bpf/ringbuf.rst: records are consumed in the order of their
+    /// reservation.)
+    ///
+    /// It stops before the first take that finds a busy record or no record, so it pushes neither `BusyFront` nor
+    /// `Empty`. Takes constant time for each record and does not allocate.
     pub fn take_many(&mut self, n: usize, out: &mut Vec<Taken>) -> usize
         requires room { vec_len out.old + n ≤ vec_capacity out.old }
         ensures same_tag { self.new.tag ≡ self.old.tag }
@@ -264,9 +284,11 @@ impl RingState {
         self.state.take_many(n, out)
     }
 
-    /// Hands the chapter out as it is, and goes on in `empty`, which becomes the next one: it begins with what the old one stands for. Hands `empty`
-    /// back where it has entries, another room or other workers, or where the old one's number is 2^62. In time linear in the records that were not
-    /// taken and the workers, and without memory.
+    /// Hands out the chapter as it is. The ring continues in `empty`, which becomes the next chapter; its opening is
+    /// the summary of the old one at its end.
+    ///
+    /// Returns `empty` if it has entries, or another room or number of workers, or if the old chapter's number is 2^62.
+    /// Takes time linear in the numbers of untaken records and of workers, and does not allocate.
     pub fn hand_out(&mut self, empty: Chapter) -> Result<Chapter, Chapter>
         ensures handed_out { IfOk result (λ out. HandsOut self.old.state.ring self.new.state.ring out) }
         ensures fit { IsOk result ↔ MayGoOnIn self.old.state.ring empty }

@@ -1,4 +1,4 @@
-//! The numbers that a ring is made with and goes on with.
+//! The parameters of a ring, and of a chapter in which it may continue.
 
 ghost use Rattle.std.specs.Prelude.{ℕ, ◌≡◌, ◌/◌, ◌<◌, ◌≤◌, ◌^◌, ◌↔◌, IsErrOf, IsTrue, IfOk, OnOk, length, slice_index_or};
 ghost use Rattle.std.specs.Int.{IsPowerOfTwo};
@@ -12,7 +12,7 @@ use rb_history::{Tally, is_size, is_start, is_worker_count};
 use rb_lend::Sheet;
 use std::alloc::{AllocError, Global};
 
-/// Whether a ring may be made with these numbers, or the first refusal that applies; never `Memory`.
+/// Checks the parameters of a ring, and returns the first fault that applies; never `Memory`.
 pub(crate) fn check_setup(size: u64, start: u64, workers: u32, room: u32) -> Result<(), OpenFault>
     ensures size { IsErrOf result OpenFault.Size ↔ ¬ IsRingSize size }
     ensures start { IsErrOf result OpenFault.Start ↔ (IsRingSize size × ¬ IsStartPosition start) }
@@ -35,8 +35,8 @@ pub(crate) fn check_setup(size: u64, start: u64, workers: u32, room: u32) -> Res
     Ok(())
 }
 
-/// How many slots a ring of this size has, which keeps chapters of so much room: a power of two, and as many as there may be records at
-/// once, of which each takes eight bytes of the ring at least.
+/// Returns the number of slots of a ring of this size with chapters of this room: a power of two, and as many as there
+/// can be records at once, since each occupies at least eight bytes of the ring.
 pub(crate) fn slots_for(size: u64, room: u32) -> usize
     requires size { IsRingSize size }
     requires room { IsChapterRoom room }
@@ -51,7 +51,7 @@ pub(crate) fn slots_for(size: u64, room: u32) -> usize
     }
 }
 
-/// So many sheets without bytes.
+/// Returns `slots` empty sheets.
 pub(crate) fn empty_sheets(alloc: Global, slots: usize) -> Result<Vec<Sheet>, AllocError>
     ensures many { IfOk result (λ sheets. length sheets.items ≡ slots) }
 {
@@ -62,7 +62,7 @@ pub(crate) fn empty_sheets(alloc: Global, slots: usize) -> Result<Vec<Sheet>, Al
     Ok(sheets)
 }
 
-/// Whether a ring that keeps the chapter may go on in the other.
+/// Returns whether a ring that keeps `chapter` may continue in `empty`.
 pub(crate) fn is_fit(chapter: &Chapter, empty: &Chapter) -> bool
     ensures exact { IsTrue result ↔ ((length empty.now.entries ≡ 0) × (empty.now.room ≡ chapter.now.room) × (empty.now.opening.setup.workers ≡ chapter.now.opening.setup.workers) × (chapter.now.number < 2 ^ 62)) }
 {
@@ -72,7 +72,7 @@ pub(crate) fn is_fit(chapter: &Chapter, empty: &Chapter) -> bool
         && chapter.number() < COUNT_LIMIT
 }
 
-/// How many records a worker was granted.
+/// Returns the number of records that were granted to a worker.
 pub(crate) fn made_by(tallies: &[Tally], worker: u32) -> u64
     requires worker { worker < length tallies.now }
     ensures made { result ≡ (slice_index_or tallies.now worker no_tally).made }

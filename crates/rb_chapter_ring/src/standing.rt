@@ -1,4 +1,4 @@
-//! What a chapter begins with.
+//! The opening of a chapter.
 
 ghost use Rattle.std.specs.Prelude.{◌≡◌, ◌+◌, ◌<◌, ◌≤◌, ◌^◌, ◌↔◌, IfOk, IsTrue, drop, length, map, replicate, slice_index_or, slice_set};
 ghost use Rattle.rb_history.specs.Span.{span};
@@ -20,39 +20,39 @@ use rb_history::{Tally, span};
 use std::alloc::{AllocError, Global};
 use std::marker::Model;
 
-/// What has become of a record that was not taken.
+/// The status of a record that was not taken.
 #[derive(Clone, Copy, Debug, PartialEq, Eq)]
 pub enum UntakenStatus {
     /// It was neither submitted nor discarded.
     Busy,
     /// It was submitted.
     Waiting,
-    /// It was discarded, and is still to be passed over.
+    /// It was discarded, and is still to be skipped.
     Discarded,
 }
 
 /// A record that was granted and not taken when a chapter was opened.
 #[derive(Clone, Copy, Debug, PartialEq, Eq)]
 pub struct UntakenRecord {
-    /// Its position, in bytes.
+    /// The position, in bytes.
     pub pos: u64,
-    /// Its length, in bytes.
+    /// The length, in bytes.
     pub len: u32,
-    /// The worker to whom it was granted.
+    /// The number of the worker to which it was granted.
     pub worker: u32,
-    /// How many records that worker was granted before.
+    /// The number of records that were granted to that worker before.
     pub serial: u64,
-    /// What has become of it.
+    /// The status.
     pub status: UntakenStatus,
 }
 
-/// What a ring's history stands for where a chapter begins: the ring's numbers, both positions, the records that were not taken,
-/// and the totals of all entries before. It is made and changed by its chapter alone.
+/// An opening: a summary of a ring's history where a chapter begins. It has the ring's parameters, both positions, the
+/// records that were not taken, and the totals of all entries before. Only its chapter creates and changes it.
 #[derive(Drop)]
 pub struct Standing {
     numbers: StandingNumbers,
     records: Vec<UntakenRecord>,
-    // Where the records that are there begin: before them stand those that were taken.
+    // The index of the first untaken record; those before it were taken.
     first: usize,
     // One for each worker, by its number.
     tallies: Vec<Tally>,
@@ -74,7 +74,7 @@ impl Model for Standing {
 }
 
 impl Standing {
-    // An opening of zeros, with room for `room` records.
+    // Returns an opening of zeros, with room for `room` records.
     pub(crate) fn of_zeros(alloc: Global, room: u32, workers: u32) -> Result<Standing, AllocError>
         ensures zeros { IfOk result (λ o. o.opening ≡ empty_ring (record { size = 0; start = 0; workers = workers })) }
         ensures room { IfOk result (λ o. o.room ≡ room) }
@@ -88,7 +88,7 @@ impl Standing {
         })
     }
 
-    // Makes it that of a ring where nothing was done, for as many workers.
+    // Resets it to the opening of a new ring with the same number of workers.
     pub(crate) fn begin(&mut self, size: u64, start: u64)
         ensures first { self.new.opening ≡ empty_ring (record { size = size; start = start; workers = self.old.opening.setup.workers }) }
         ensures room { self.new.room ≡ self.old.room }
@@ -100,7 +100,7 @@ impl Standing {
         forget(self.tallies.as_mut_slice());
     }
 
-    // Makes it say what the other says. It takes no memory.
+    // Copies the contents of another opening. Does not allocate.
     pub(crate) fn copy_from(&mut self, other: &Standing)
         requires room { length other.now.opening.records ≤ self.old.room }
         requires workers { self.old.opening.setup.workers ≡ other.now.opening.setup.workers }
@@ -115,7 +115,7 @@ impl Standing {
         copy(self.tallies.as_mut_slice(), other.tallies.as_slice());
     }
 
-    // Another that says the same, with room for `room` records at least.
+    // Returns a copy, with room for at least `room` records.
     pub(crate) fn try_clone(&self, alloc: Global, room: u32) -> Result<Standing, AllocError>
         ensures same { IfOk result (λ o. o.opening ≡ self.now.opening) }
         ensures room { IfOk result (λ o. room ≤ o.room) }
@@ -144,7 +144,7 @@ impl Standing {
         count_refused(self.tallies.as_mut_slice(), worker);
     }
 
-    // Adds the record that the worker is granted next, of `len` bytes, and returns it.
+    // Adds the record of `len` bytes that the worker is granted next, and returns it.
     pub(crate) fn add_grant(&mut self, worker: u32, len: u32) -> UntakenRecord
         requires worker { worker < self.old.opening.setup.workers }
         requires total { (tally_at self.old.opening worker).made < 2 ^ 62 }
@@ -168,7 +168,7 @@ impl Standing {
     }
 
     #[inline(always)]
-    // The record at an index, from the front on, came to this end. Returns its position.
+    // Applies the commit of the record at an index, counted from the front. Returns its position.
     pub(crate) fn add_end(&mut self, index: usize, end: RecordEnd) -> u64
         requires within { index < length self.old.opening.records }
         requires worker { (record_in self.old.opening index).worker < self.old.opening.setup.workers }
@@ -183,7 +183,7 @@ impl Standing {
         record.pos
     }
 
-    // The record at the front was taken. Returns the consumer position before.
+    // Applies a take of the record at the front. Returns the consumer position before it.
     pub(crate) fn add_take(&mut self) -> u64
         requires some { 0 < length self.old.opening.records }
         requires limit { self.old.opening.consumer + span (record_in self.old.opening 0).len ≤ 2 ^ 62 }
@@ -201,7 +201,7 @@ impl Standing {
         position
     }
 
-    // The worker's totals.
+    // Returns the worker's totals.
     pub(crate) fn tally(&self, worker: u32) -> Tally
         requires worker { worker < self.now.opening.setup.workers }
         ensures tally { result ≡ tally_at self.now.opening worker }
@@ -209,7 +209,7 @@ impl Standing {
         tally_of(self.tallies.as_slice(), worker)
     }
 
-    // Whether both say the same. In time linear in the records and the workers.
+    // Returns whether both have the same contents. Takes time linear in the numbers of records and of workers.
     pub(crate) fn is_same(&self, other: &Standing) -> bool
         ensures exact { IsTrue result ↔ (self.now.opening ≡ other.now.opening) }
     {
@@ -222,14 +222,14 @@ impl Standing {
         are_same_tallies(self.tallies.as_slice(), other.tallies.as_slice())
     }
 
-    /// The records that were granted and not taken, in the order of their grants. In constant time, as the call below.
+    /// Returns the records that were granted and not taken, in the order of their grants. Takes constant time.
     pub fn records(&self) -> &[UntakenRecord]
         ensures records { map untaken_shown result.now ≡ self.now.opening.records }
     {
         &self.records.as_slice()[self.first..]
     }
 
-    /// Each worker's totals before the chapter, by its number.
+    /// Returns each worker's totals before the chapter, by its number. Takes constant time.
     pub fn tallies(&self) -> &[Tally]
         ensures tallies { result.now ≡ self.now.opening.tallies }
     {

@@ -9,14 +9,14 @@ use crate::record_end::RecordEnd;
 use crate::standing::UntakenRecord;
 use rb_history::Tally;
 
-/// Makes all totals those of a worker without entries.
+/// Resets all totals to those of a worker without entries.
 pub(crate) fn forget(tallies: &mut [Tally])
     ensures zeros { tallies.new ≡ replicate (length tallies.old) no_tally }
 {
     tallies.fill(Tally::none());
 }
 
-/// Makes all totals those of the other.
+/// Copies all totals from the other list.
 pub(crate) fn copy(tallies: &mut [Tally], other: &[Tally])
     requires workers { length tallies.old ≡ length other.now }
     ensures same { tallies.new ≡ other.now }
@@ -24,21 +24,21 @@ pub(crate) fn copy(tallies: &mut [Tally], other: &[Tally])
     tallies.copy_from_slice(other);
 }
 
-/// Whether the records show the same.
+/// Returns whether the records are the same.
 pub(crate) fn are_same_records(records: &[UntakenRecord], others: &[UntakenRecord]) -> bool
     ensures exact { IsTrue result ↔ (map untaken_shown records.now ≡ map untaken_shown others.now) }
 {
     records == others
 }
 
-/// Whether the totals are the same.
+/// Returns whether the totals are the same.
 pub(crate) fn are_same_tallies(tallies: &[Tally], others: &[Tally]) -> bool
     ensures exact { IsTrue result ↔ (tallies.now ≡ others.now) }
 {
     tallies == others
 }
 
-/// The totals of the worker.
+/// Returns the totals of the worker.
 pub(crate) fn tally_of(tallies: &[Tally], worker: u32) -> Tally
     requires worker { worker < length tallies.now }
     ensures tally { result ≡ slice_index_or tallies.now worker no_tally }
@@ -47,7 +47,7 @@ pub(crate) fn tally_of(tallies: &[Tally], worker: u32) -> Tally
 }
 
 #[inline(always)]
-/// Counts a record that the worker was granted, and returns how many it was granted before.
+/// Counts a record that was granted to the worker, and returns how many had been granted to it before.
 pub(crate) fn count_made(tallies: &mut [Tally], worker: u32) -> u64
     requires worker { worker < length tallies.old }
     requires total { (slice_index_or tallies.old worker no_tally).made < 2 ^ 62 }
@@ -71,7 +71,7 @@ pub(crate) fn count_refused(tallies: &mut [Tally], worker: u32)
 }
 
 #[inline(always)]
-/// Counts the end of a record of the worker.
+/// Counts the commit of a record of the worker.
 pub(crate) fn count_end(tallies: &mut [Tally], worker: u32, end: RecordEnd)
     requires worker { worker < length tallies.old }
     requires total { (slice_index_or tallies.old worker no_tally).submitted + (slice_index_or tallies.old worker no_tally).discarded < 2 ^ 62 }
@@ -85,7 +85,7 @@ pub(crate) fn count_end(tallies: &mut [Tally], worker: u32, end: RecordEnd)
 }
 
 #[inline(always)]
-/// The record at an index, from the first on, comes to this end. Returns it as it was.
+/// Applies the commit of the record at an index, counted from `first`. Returns the record as it was before.
 pub(crate) fn set_end(
     records: &mut [UntakenRecord],
     first: usize,
@@ -104,7 +104,7 @@ pub(crate) fn set_end(
     record
 }
 
-/// The first of the records that are there.
+/// Returns the first untaken record.
 pub(crate) fn front_of(records: &[UntakenRecord], first: usize) -> UntakenRecord
     requires within { first < length records.now }
     ensures record { untaken_shown result ≡ slice_index_or (map untaken_shown (drop first records.now)) 0 no_record }

@@ -1,4 +1,4 @@
--- What is in a batch.
+-- The contents of a batch.
 use Rattle.std.proofs.Common.{◌≡◌, ℕ, zero, suc, ◌≤◌, List, [], ◌∷◌, ◌++◌, take, drop, refl, sym, ap, ◌∙◌, subst, arith, add-one}
 use Rattle.std.specs.Prelude.{filter, Result, Ok, Err, IsErr, OnOk}
 use Rattle.std.specs.List.{slice_index_or as get_or, remove}
@@ -23,7 +23,7 @@ pub records-each : (old new : Ring) (ts : List Taken) → TakesEach old ts new �
 records-each old new [] each = tt
 records-each old new (t ∷ ts) each = (each.2, records-each each.0 new ts each.3)
 
--- what came into an empty batch is all that is in it
+-- the contents of a batch that was empty are what the call pushed
 pub fill-called : (r : Result ℕ Foreign) (room : ℕ) (handed_out : List Entry) (n : ℕ) (before after : List Taken) (b a : Book)
     → OnOk r (LockedCall Consumer b a (InRoomBehind room handed_out (TakesMany n (pushed before after)))) → before ≡ [] → OnOk r (LockedCall Consumer b a (InRoomBehind room handed_out (TakesMany n after)))
 fill-called (Ok k) room handed_out n before after b a call none = subst (λ x. LockedCall Consumer b a (InRoomBehind room handed_out (TakesMany n (pushed x after)))) none call

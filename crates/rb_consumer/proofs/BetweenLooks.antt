@@ -25,9 +25,9 @@ use Rattle.rb_ledger.specs.EntryRoom.{owed_by, HasEntryRoom, MayLogGrant, MayLog
 use Rattle.rb_consumer.specs.Turns.{IsTurnDue}
 use Rattle.rb_consumer.specs.BetweenLooks.{records_at_once, is_take_entry, is_refusal_entry, SufficesBetweenLooks, WasLookedAt, FullOnlyAfterTheRing}
 
--- ---- how many records are there
+-- ---- the number of records
 
--- as the weights count them
+-- the number of records, as a weight
 abbrev number_of : List Shown → ℕ
 number_of ss = weight (λ st. 1) ss
 
@@ -41,7 +41,7 @@ owed-one Waiting = omega arith
 owed-one Consumed = omega arith
 owed-one Discarded = omega arith
 
--- a record owes two entries at most
+-- a record owes at most two entries
 owed-few : (ss : List Shown) → owed_for ss ≤ 2 * length ss
 owed-few [] = omega arith
 owed-few (s ∷ ss) = omega (arith, sum_by-cons (λ (x : Shown). entries_owed x.status) s ss, owed-one s.status, owed-few ss)
@@ -49,7 +49,7 @@ owed-few (s ∷ ss) = omega (arith, sum_by-cons (λ (x : Shown). entries_owed x.
 span-grows : (least n : ℕ) → least ≤ n → span least ≤ span n
 span-grows least n low = omega (arith, low)
 
--- records in a row, of at least so many bytes each, reach so far
+-- consecutive records of at least `least` bytes each cover at least this distance
 row-reaches : (least from to : ℕ) (ss : List Shown) → InRow from ss to → All (λ (s : Shown). least ≤ s.len) ss → from + length ss * span least ≤ to
 row-reaches least from to [] row all = omega (arith, row)
 row-reaches least from to (s ∷ ss) row all =
@@ -57,7 +57,7 @@ row-reaches least from to (s ∷ ss) row all =
     let grows = span-grows least s.len (All-head (λ (x : Shown). least ≤ x.len) s ss all) in
     omega (arith, rest, grows)
 
--- so many fit where they reach no further
+-- if that many spans stay within the size, there are at most that many records at once
 fit : (many size least : ℕ) → many * span least ≤ size - 1 → many ≤ records_at_once size least
 fit many size least within = (le-div_iff_mul-le (omega arith)).1 within
 
@@ -75,8 +75,8 @@ takes_in es = count_by is_take_entry es
 abbrev refusals_in : List Entry → ℕ
 refusals_in es = count_by is_refusal_entry es
 
--- An entry more, with what is owed, is three more for a grant, whose record is there more; none for an end; none for a take, whose record is there
--- no more; and one for a refusal.
+-- One more entry, with what is owed, adds three for a grant, whose record is now there; nothing for a commit; nothing
+-- for a take, whose record is no longer there; and one for a refusal.
 abbrev AddsUp : List Entry → List Entry → Type 0
 AddsUp h es =
     length (h ++ es) + owed_for (records (h ++ es)) + 3 * number_of (records h)
@@ -118,7 +118,7 @@ adds-up r h (e ∷ es) l =
 -- ---- the chapter
 
 module _ (room margin cut least takes refusals : ℕ) (looked now : Ring) (suffices : SufficesBetweenLooks room margin now.setup.size least takes refusals) (is : IsRing now) (seen : WasLookedAt room margin cut looked now takes refusals) where
-  -- what was used and owed at the look is within the room, as the look found it
+  -- at the look, the used and the owed entries were within the room, as the look found it
   abbrev LookFound : ℕ → Type 0
   LookFound used = (used ≡ 0) ⊎ (used + owed_by looked + 3 + margin ≤ room)
 
@@ -129,7 +129,7 @@ module _ (room margin cut least takes refusals : ℕ) (looked now : Ring) (suffi
   now-legal : IsLegal now.setup (looked.history ++ seen.since)
   now-legal = subst (IsLegal now.setup) seen.goes_on is.legal
 
-  -- with so many records there now there is room for so many entries
+  -- with at most this many records now there is room for `more` entries
   room-left : (many more : ℕ) → number_of (records now.history) ≤ many → 3 * (many + takes) + refusals + more ≤ room → 3 * (many + takes) + refusals + more ≤ margin + 3 → HasEntryRoom room cut more now
   room-left many more few fits early =
       let added = subst (λ (x : List Entry). length x + owed_for (records x) + 3 * number_of (records looked.history) ≡ length looked.history + owed_by looked + 3 * number_of (records x) + 3 * takes_in seen.since + refusals_in seen.since)
@@ -145,7 +145,7 @@ module _ (room margin cut least takes refusals : ℕ) (looked now : Ring) (suffi
         | inr found ↦ omega (arith, added, longer, few_takes, few_refusals, handed_out, few, early, found)
       ]
 
-  -- as many records are there as the row of them has room for
+  -- there are at most as many records as the space between the positions allows
   module _ (all : All (λ (s : Shown). least ≤ s.len) (records now.history)) where
     there-now : (records_there : ℕ) → records_there ≡ number_of (records now.history) → consumer_of now.setup.start now.history + records_there * span least ≤ producer_of now.setup.start now.history
     there-now many is_many =

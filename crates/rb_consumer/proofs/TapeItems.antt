@@ -1,4 +1,4 @@
--- What one call took stands on a tape.
+-- The records that one call took may follow on a tape.
 use Rattle.std.proofs.Common.{◌≡◌, ℕ, ◌+◌, ◌<◌, ◌≤◌, ◌^◌, List, [], ◌∷◌, length, refl, sym, ap, ◌∙◌, subst, arith}
 use Rattle.std.specs.Prelude.{Result, Ok, Err, OnOk}
 use Rattle.std.specs.List.{sum_by}
@@ -21,7 +21,7 @@ use Rattle.rb_ledger.proofs.Seated.{taker-goes-on}
 use Rattle.rb_tape.specs.Items.{tape_items, AreRecords}
 use Rattle.rb_consumer.proofs.Batches.{records-each}
 
--- ---- records that end within the ring's size stand on a tape
+-- ---- records that end within the ring's size may follow on a tape
 
 items-stand : (size at : ℕ) (ts : List Taken) → AreRecords ts → AreTakenFrom at ts → size ≤ 67108864 → span_among ts < size → at + span_among ts ≤ 2 ^ 62 → AreItemsFrom size at (tape_items ts)
 items-stand size at [] all places small fits low = tt
@@ -45,7 +45,7 @@ spans-same (Skipped p n ∷ ts) = sum_by-cons span_in (Skipped p n) ts ∙ ap (�
 spans-same (BusyFront ∷ ts) = spans-same ts
 spans-same (Empty ∷ ts) = spans-same ts
 
--- ---- the takes of one call end within the ring's size
+-- ---- the records taken by one call end within the ring's size
 
 -- a take grants nothing
 no-grants : (ts : List Taken) → sum_by granted_span (takes_of ts) ≡ 0
@@ -62,7 +62,7 @@ module _ (c s p : ℕ) (b a : Book) (n : ℕ) (ts : List Taken) (turn : LockedCa
   ends : p + span_among ts ≡ consumer_of turn.left.setup.start turn.left.history
   ends = subst (λ (x : Book). p + span_among ts ≡ consumer_of x.setup.start x.history) turn.seen (many-ties c s p b a n ts turn ties).position_is
 
-  -- the producer stays where it is
+  -- the producer position does not change
   producer-stays : producer_of turn.left.setup.start turn.left.history ≡ producer_of turn.point.setup.start turn.point.history
   producer-stays =
       let logs = logs-each turn.point turn.left ts turn.called.each in

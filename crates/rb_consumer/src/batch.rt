@@ -1,4 +1,4 @@
-//! Many records, taken under one holding of the lock.
+//! Batches: many records, taken under one acquisition of the lock.
 
 ghost use Rattle.std.specs.Prelude.{◌≡◌, ◌≢◌, ◌+◌, ◌≤◌, ◌↔◌, [], IsErr, IfOk, IfSome, IfNone, OnOk, None, filter, length};
 ghost use Rattle.std.specs.List.{list_any};
@@ -23,8 +23,10 @@ use std::alloc::{AllocError, Global};
 use std::marker::Model;
 use std::sync::Wait;
 
-/// Records that a ring's consumer took, with their bytes, as many as there is room for. It is filled again and again, and takes memory
-/// when it is made alone. Contracts see its capacity and the answers of `take` that are in it.
+/// A batch of records that a ring's consumer took, with their bytes. It can be filled repeatedly, and allocates only
+/// when it is created.
+///
+/// Contracts see its capacity, and the results of `take` that are in it.
 #[derive(Drop)]
 pub struct Batch {
     taken: Vec<Taken>,
@@ -42,7 +44,7 @@ impl Model for Batch {
 }
 
 impl Batch {
-    /// An empty batch with room for `n` records; the error is want of memory.
+    /// Returns an empty batch with a capacity of `n` records. Fails if memory can't be allocated.
     pub fn with_capacity(alloc: Global, n: usize) -> Result<Batch, AllocError>
         ensures empty { IfOk result (λ b. b ≡ record { capacity = n; taken = [] }) }
     {
@@ -50,10 +52,12 @@ impl Batch {
         Ok(Batch { taken })
     }
 
-    /// Gives up what is in the batch, and takes records under one holding of the ring's lock until the batch is full, the front is busy or
-    /// the ring is empty; returns how many they are. It is one `take_many` of the ring with
-    /// its whole history (`call`). `Foreign` where the seat is another ring's: then nothing changed. It takes no memory.
-    /// (Linux Documentation/bpf/ringbuf.rst: records are consumed in the order of their reservation.)
+    /// Drops the contents of the batch, and takes records under one acquisition of the ring's lock until the batch is
+    /// full, the front is busy or the ring is empty. Returns the number of records. (Linux
+    /// Documentation/bpf/ringbuf.rst: records are consumed in the order of their reservation.)
+    ///
+    /// The call is one `take_many` of the ring with its whole history (`call`). Returns `Foreign` if the seat belongs
+    /// to another ring: then nothing changed. Does not allocate.
     pub fn fill<R: Wait>(
         &mut self,
         rt: &R,
@@ -88,7 +92,7 @@ impl Batch {
         ring.take_many(rt, seat, n, &mut self.taken)
     }
 
-    /// What holds of each batch: what is in it are records, at most as many as there is room for.
+    /// States the invariant of a batch: it contains records only, and at most as many as its capacity.
     pub fn facts(&self)
         ensures records { AreRecords self.now.taken }
         ensures within { length self.now.taken ≤ self.now.capacity }
@@ -96,7 +100,7 @@ impl Batch {
         let _ = &self.taken;
     }
 
-    /// The submitted records in the batch, in the order in which they were taken.
+    /// Returns the submitted records in the batch, in the order in which they were taken.
     pub fn events(&self) -> Events<'_>
         ensures value { result ≡ filter is_event self.now.taken }
     {
@@ -105,14 +109,15 @@ impl Batch {
         }
     }
 
-    /// All records in the batch, discarded ones too, in the order in which they were taken.
+    /// Returns all records in the batch, including discarded ones, in the order in which they were taken.
     pub fn items(&self) -> Items<'_>
         ensures value { result ≡ self.now.taken }
     {
         Items::new(self.taken.as_slice())
     }
 
-    /// Whether a submitted record in the batch has more than `n` bytes. In time linear in the records.
+    /// Returns whether a submitted record in the batch has more than `n` bytes. Takes time linear in the number of
+    /// records.
     pub fn has_longer(&self, n: u32) -> bool
         ensures found { result ≡ list_any (is_longer_event n) self.now.taken }
     {
@@ -124,8 +129,8 @@ impl Batch {
         false
     }
 
-    /// Takes the last submitted record out of the batch and returns its sheet, to be used again; `None` where there is none. In time linear
-    /// in the discarded records behind it.
+    /// Removes the last submitted record from the batch and returns its sheet for reuse, or `None` if there is none.
+    /// Takes time linear in the number of discarded records after it.
     pub fn recycle(&mut self) -> Option<Sheet>
         ensures recycles { Recycles self.old.taken self.new.taken result }
         ensures capacity { self.new.capacity ≡ self.old.capacity }
@@ -138,7 +143,7 @@ impl Batch {
     }
 }
 
-// Whether the answer is a submitted record of more than so many bytes.
+// Returns whether the result is a submitted record of more than `n` bytes.
 fn is_longer(answer: &Taken, n: u32) -> bool
     ensures { result ≡ is_longer_event n answer.now }
 {
@@ -148,7 +153,7 @@ fn is_longer(answer: &Taken, n: u32) -> bool
     }
 }
 
-// The index of the last submitted record, where there is one.
+// Returns the index of the last submitted record, if there is one.
 fn last_event(taken: &[Taken]) -> Option<usize>
     ensures last { IfSome result (IsLastEvent taken.now) }
     ensures none { IfNone result (filter is_event taken.now ≡ []) }

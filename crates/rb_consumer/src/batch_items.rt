@@ -1,4 +1,4 @@
-//! What a batch lends of submitted records, one after the other.
+//! An iterator over the submitted records of a batch.
 
 ghost use Rattle.std.specs.Prelude.{◌≡◌};
 
@@ -7,8 +7,8 @@ use rb_lend::Lent;
 use rb_tape::Event;
 use std::marker::Model;
 
-/// The submitted records of a batch in the order in which they were taken. A call takes time linear in the discarded records before the
-/// next submitted one; no memory is taken.
+/// An iterator over the submitted records of a batch, in the order in which they were taken. A step takes time linear
+/// in the number of discarded records before the next submitted one, and does not allocate.
 #[derive(Drop)]
 pub struct Events<'a> {
     pub(crate) rest: &'a [Taken],
@@ -35,7 +35,7 @@ impl<'a> Iterator for Events<'a> {
 
     ghost remaining = { λ s. at_most (length s) };
 
-    /// The next submitted record.
+    /// Returns the next submitted record.
     fn next(&mut self) -> Option<Event<'a>> {
         while !self.rest.is_empty() {
             let rest = self.rest;

@@ -1,4 +1,4 @@
-//! Chapters that a ring's consumer hands out in turn, with the memory of two.
+//! Keepers, with which a ring's consumer hands out chapters.
 
 ghost use Rattle.std.specs.Prelude.{◌≡◌, ◌≢◌, ◌<◌, ◌^◌, ◌↔◌, ◌++◌, false, IfOk, IfErr, IfSome, IsErr, IsErrOf, OnErr, IsTrue, None, length};
 ghost use Rattle.rb_ledger.specs.ChapterSeats.{IsFitChapter};
@@ -12,11 +12,12 @@ use rb_shared_ring::{ConsumerSeat, HandFault, SharedRing};
 use std::marker::Model;
 use std::sync::Wait;
 
-/// Hands a ring's chapters out where they are about to be full, with one chapter of its own: the ring goes on in that one, and the old
-/// one is lent and then used again. So a ring that runs without end has the memory of two chapters.
+/// A keeper hands out a ring's chapter (a bounded segment of its history) when it is nearly full. It has one empty
+/// chapter, in which the ring continues; it lends the old one and then reuses it. So a ring that runs without end needs
+/// the memory of two chapters.
 #[derive(Drop)]
 pub struct Keeper {
-    // There is one whenever no call is being made. It has no entries, or those that the last turn lent.
+    // There is one except during a call. It has no entries, or those that the last turn lent.
     kept: Option<Chapter>,
     margin: u32,
     is_lent: bool,
@@ -45,16 +46,19 @@ impl Keeper {
     ghost use Rattle.rb_consumer.specs.Keepers.{KeepsLent, handed_in};
     ghost use Rattle.rb_consumer.specs.contracts.keeper.Keeper.{the_row};
 
-    /// A keeper of this chapter, whose turns hand a ring's chapter out where it has no room for one grant more. It fits a ring where the
-    /// chapter has no entries and the ring's room and workers.
+    /// Returns a keeper that uses this chapter. Its turns hand out a ring's chapter when it has no room for another
+    /// grant.
+    ///
+    /// The keeper fits a ring if the chapter has no entries, and the same room and number of workers as the ring.
     pub fn new(chapter: Chapter) -> Keeper
         ensures keeper { result ≡ record { chapter = chapter; margin = 0; is_lent = false } }
     {
         Keeper::with_margin(chapter, 0)
     }
 
-    /// The same, whose turns hand a ring's chapter out earlier, by so many entries: those that workers may add until the consumer comes
-    /// round again. How many are enough is in `chapters_are_full_after_their_ring`.
+    /// Returns a keeper like that of `new`, whose turns hand out a ring's chapter `margin` entries earlier: as many as
+    /// the workers may add until the consumer's next turn. `chapters_are_full_after_their_ring` states which margin is
+    /// enough.
     pub fn with_margin(chapter: Chapter, margin: u32) -> Keeper
         ensures keeper { result ≡ record { chapter = chapter; margin = margin; is_lent = false } }
     {
@@ -65,11 +69,16 @@ impl Keeper {
         }
     }
 
-    /// Looks at the ring's chapter, under the lock. Where it has entries, and those, what its records ask for, one grant more (3) and the
-    /// margin are above its room, it is handed out as it is then, for the one that was kept, and lent until the next call: then
-    /// it is cleared and used again. Else the answer is `None`, and the keeper is as it was. `Foreign` comes first, then `Unfit`, before the
-    /// look; a keeper that fits a ring fits it ever after, up to the last number. No memory is taken. A turn that hands out takes
-    /// time linear in the untaken records and the workers, and any other constant time.
+    /// Looks at the ring's chapter, under the lock, and hands it out if that is due. It is due if the chapter has
+    /// entries, and these, the entries that its records will still log, three for another grant, and the margin exceed
+    /// its room.
+    ///
+    /// A chapter that is due is replaced by the kept one, and is returned as it was under the lock. It is lent until
+    /// the next call, which clears it and reuses it. Otherwise returns `None`, and the keeper does not change.
+    ///
+    /// Returns `Foreign` or else `Unfit` before looking at the chapter. A keeper that fits a ring once fits it from
+    /// then on, until the last chapter number. Does not allocate. A turn that hands out takes time linear in the
+    /// numbers of untaken records and of workers; any other turn takes constant time.
     pub fn turn<R: Wait>(
         &mut self,
         rt: &R,
@@ -114,7 +123,7 @@ impl Keeper {
         }
     }
 
-    /// Its chapter: the one that it was made of, or the last that it lent.
+    /// Returns the keeper's chapter: the one that it was created with, or the last one that it lent.
     pub fn into_chapter(self) -> Chapter
         ensures chapter { result ≡ self.chapter }
     {
@@ -124,7 +133,7 @@ impl Keeper {
         }
     }
 
-    // Whether the ring may go on in the chapter as the next turn hands it in.
+    // Returns whether the ring may continue in the chapter that the next turn passes to it.
     fn is_fit(&self, seat: &ConsumerSeat) -> bool
         ensures exact { IsTrue result ↔ IsFitChapter seat.now (handed_in self.now) }
     {
@@ -141,7 +150,7 @@ impl Keeper {
     }
 }
 
-// The ring's chapter, handed out for the kept one where it is due; else the kept one.
+// Hands out the ring's chapter in exchange for the kept one if it is due. Otherwise returns the kept one.
 fn hand_out_due<R: Wait>(
     rt: &R,
     ring: &SharedRing,
@@ -180,7 +189,7 @@ fn hand_out_due<R: Wait>(
     }
 }
 
-// Whether a chapter of this room is due to be handed out, with so many entries and so many more that it owes.
+// Returns whether a chapter of this room is due, with `entries` entries and `more` that it owes.
 fn is_due(margin: u32, room: u32, entries: u32, more: u32) -> bool
     ensures exact { IsTrue result ↔ IsTurnDue margin room entries more }
 {

@@ -1,12 +1,14 @@
-//! What a ring's consumer does with what it takes. A `Batch` takes many records of a ring of `rb_shared_ring` under one holding of its lock
-//! and lends them, to be put on a tape (`rb_tape`) or to go elsewhere; a `Keeper` hands the ring's chapters out in turn, so that the ring
-//! runs without end in the memory of two chapters. It is for programs that hand on what they take.
+//! The consumer's side of a ring. A `Batch` takes many records from a ring of `rb_shared_ring` under one acquisition of
+//! its lock and lends them, for example to be written to a tape (`rb_tape`). A `Keeper` hands out the ring's chapters
+//! in turn, so that a ring runs without end in the memory of two chapters.
 //!
-//! Proved: what a `Batch` lends is what its one `take_many` took, in order and with nothing left out, so positions follow each other and
-//! the seat's numbers rise by them; fewer records than the capacity only where the front was busy then, or no record was left. All that a
-//! batch was filled with may go on a tape that stands at the consumer position before. A keeper hands a ring's chapter out exactly where it has entries and,
-//! with its margin, no room for one grant more; it lends that chapter as it was under the lock, and keeps it for the next turn. With enough room and
-//! margin for the ring's size no chapter is full before the ring was (`chapters_are_full_after_their_ring`).
+//! Proved: a `Batch` lends what its one `take_many` took, in order and without omissions, so the positions are
+//! consecutive and the seat's counts grow by these records. It has fewer records than its capacity only if the front
+//! was busy or no record was left. All records of a filled batch may be written to a tape that is at the consumer
+//! position from before the call. A keeper hands out a ring's chapter if and only if it has entries and, with the
+//! keeper's margin, no room for another grant; it lends that chapter as it was under the lock, and keeps it for the
+//! next turn. With enough room and margin for the ring's size, no chapter is full before the ring was
+//! (`chapters_are_full_after_their_ring`).
 //!
 //! ```text
 //! let mut batch = Batch::with_capacity(alloc, 64)?;
@@ -14,7 +16,7 @@
 //! batch.fill(rt, &ring, &mut consumer)?;
 //! let mut items = batch.items();
 //! if let Err(item) = tape.put_all(&mut items) {
-//!     // `tape.sent()` bytes of this record went out; `items` has those behind it.
+//!     // `tape.sent()` bytes of this record were written; `items` has the records after it.
 //!     tape.resume(&item)?;
 //! }
 //!
@@ -24,8 +26,8 @@
 //! }
 //! ```
 //!
-//! Its calls are tested in rb_ring_tests and rb_ring_rows, the example by `a_batch_is_written_as_a_tape`. `fill` and `turn` may wait for
-//! other threads, and no proof says that they return.
+//! The calls are tested in rb_ring_tests and rb_ring_rows, and the example by `a_batch_is_written_as_a_tape`. `fill`
+//! and `turn` may wait for other threads, and no proof says that they return.
 #![tactic(auto)]
 
 mod batch;

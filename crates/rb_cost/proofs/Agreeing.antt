@@ -1,4 +1,4 @@
--- Each valid annotation knows the same of what instructions ask for and of what is held, and so they have one cost.
+-- All valid annotations agree on what instructions request and what is held, so they have one cost.
 use Rattle.std.proofs.Common.{◌≡◌, ℕ, ◌+◌, ◌≤◌, [], ◌∷◌, refl, sym, ◌∙◌, ap, subst, cond, List, length, Option, Some, None, Ok, arith}
 use Rattle.std.specs.Prelude.{sum_by, count_by}
 use Rattle.std.proofs.lemmas.List.Sums.{sum_by-cons, sum_by-le-sum_by}
@@ -26,7 +26,7 @@ use Rattle.rb_cost.specs.Asking.{record_of, asked_of_helper, asked_by, asked_in,
 use Rattle.rb_cost.specs.Cost.{IsRingCost, IsCostUnder}
 use Rattle.rb_cost.proofs.Sizes.{AreKnown, known-record_of, reserve_known, output_ring_known}
 
--- the most of a function is that of each that is the same
+-- equal functions have the same maximum
 pub most_same : {X : Type 0} {A : X → Type 0} {f g : X → ℕ} {n : ℕ} → ((x : X) → A x → f x ≡ g x) → IsMost A f n → IsMost A g n
 most_same {X} {A} {f} {g} {n} same h = record {
   reached = let r = h.reached in (r.0, r.1, sym (same r.0 r.1) ∙ r.2);
@@ -44,7 +44,7 @@ sum_by-same f g xs same =
     let above : sum_by g xs ≤ sum_by f xs = sum_by-le-sum_by g f xs (λ x. let e = same x in omega arith) in
     omega arith
 
--- what is below a known ring, or a known number, is that one
+-- a value below a known ring, or a known number, is that ring or number
 known_below : (v w x y : Abs) → BelowValue v w → BelowValue x y → AreKnown w y → record_of v x ≡ record_of w y
 known_below v w x y below_ring below_len k =
     let ring : v ≡ Ring k.ring = subst (BelowValue v) k.ring_is below_ring in
@@ -69,7 +69,7 @@ module _ (limits : Limits) (program : List Insn) (a b : Annotation) (least : IsL
   below_at : (unit : ℕ) (insn : Insn) → slot_at program unit ≡ Some insn → Below (a unit) (b unit)
   below_at unit insn begins = least.least b valid unit insn (begins-lt program unit insn begins) begins
 
-  -- the same records are asked for
+  -- the same records are requested
   pub asked_same : (unit : ℕ) → asked_at program a unit ≡ asked_at program b unit
   asked_same unit = by_slot (slot_at program unit) refl
     where

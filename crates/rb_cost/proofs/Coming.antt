@@ -11,11 +11,11 @@ use Rattle.rb_semantics.specs.ProgramRuns.{Outcome, Returns, IsStuck, Strayed, W
 use Rattle.rb_cost.specs.Runs.{Moment, LeadsTo, AreMoments, call_of}
 use Rattle.rb_cost.specs.RunMoments.{answered_by, calls_in, EndsAtMoment, RunsHaveMoments}
 
--- a moment that has not led on
+-- a moment that has not been continued
 abbrev now : State → Moment
 now s = record { state = s; answer = None }
 
--- a record is handed back by that answer alone
+-- only that answer hands a record back
 handed_back : (p : PendingCall) (answer : HelperAnswer) (s : State) → resume p answer s ≡ Strays → answer ≡ HandedBack
 handed_back asked.GiveBack HandedBack s e = refl
 handed_back asked.GiveBack answer s e = absurd (cc)
@@ -27,12 +27,12 @@ handed_back asked.Query (Told n) s e = absurd (cc)
 handed_back asked.Query answer s e = absurd (cc)
 
 module _ (program : List Insn) (first : State) where
-  -- what the last moment is answered is of no account yet
+  -- the answer of the last moment does not matter yet
   answered-now : (s : State) (answer : Option HelperAnswer) (before : List Moment) → AreMoments program first (now s ∷ before) → AreMoments program first (record { state = s; answer = answer } ∷ before)
   answered-now s answer [] h = h
   answered-now s answer (m ∷ before) h = h
 
-  -- a run that goes on from some moments
+  -- a run that continues from some moments
   record GoesOn (earlier : List Moment) (calls : List HelperCall) (answers : List HelperAnswer) (End : Moment → Type 0) : Type 0 where
     last : Moment
     before : List Moment

@@ -1,4 +1,4 @@
--- The most of something at the units of a program.
+-- The maximum over the units of a program.
 use Rattle.std.proofs.Common.{◌≡◌, ◌⊎◌, inl, inr, ⊎_elim, ℕ, ◌+◌, ◌<◌, ◌≤◌, sym, ◌∙◌, ap, subst, List, Some, None, arith}
 use Rattle.std.specs.Prelude.{max}
 use Rattle.std.proofs.lemmas.Bool.{cases_lt}
@@ -11,7 +11,7 @@ use Rattle.rb_cost.specs.inner.Pass.{IsMostBefore}
 
 module _ (program : List Insn) (f : ℕ → ℕ) where
   module _ {most unit : ℕ} (h : IsMostBefore program f most unit) where
-    -- at a unit at which no instruction begins nothing changes
+    -- a unit at which no instruction begins changes nothing
     pub none_here : slot_at program unit ≡ None → IsMostBefore program f most (unit + 1)
     none_here none = record {
       passed = λ other lt there. ⊎_elim

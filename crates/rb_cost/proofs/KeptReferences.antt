@@ -1,4 +1,5 @@
--- A property of references that a null test keeps, and that each new reference has, is kept by each step: of all references that are held.
+-- A property of references that a null test preserves, and that each new reference has, is preserved by each step for
+-- all references that are held.
 use Rattle.std.proofs.Common.{◌≡◌, ℕ, ◌<◌, refl, subst, Bool, true, false, cond, List, [], ◌∷◌, ◌++◌, map, Result, Ok, Err, Option, Some, None}
 use Rattle.std.specs.Prelude.{◌==◌, ℤ, pos, filter, not, nat_le, if◌then◌else◌}
 use Rattle.std.specs.List.{AllByRecursion}
@@ -56,7 +57,7 @@ module _ (P : Reference → Type 0) (tested : (r : Reference) → P r → P (rec
   kept_added [] new h k = (k, tt)
   kept_added (r ∷ held) new h k = (h.0, kept_added held new h.1 k)
 
-  -- ---- the table keeps it so
+  -- ---- the instruction table preserves it
 
   abbrev BothKept : Effect → Type 0
   BothKept e = AllHeld e.next.held × AllHeld e.jump.held
@@ -65,7 +66,7 @@ module _ (P : Reference → Type 0) (tested : (r : Reference) → P r → P (rec
   GivesKept (Ok e) = BothKept e
   GivesKept (Err broken) = Unit {0}
 
-  -- past a check
+  -- after a check
   go : {A : Type 0} (m : Result A Rule) (f : A → Result Effect Rule) → ((x : A) → m ≡ Ok x → GivesKept (f x)) → GivesKept (m >>= f)
   go (Ok x) f k = k x refl
   go (Err broken) f k = tt
@@ -181,7 +182,7 @@ module _ (P : Reference → Type 0) (tested : (r : Reference) → P r → P (rec
   along_kept Next e h = h.0
   along_kept Target e h = h.1
 
-  -- so it is kept along an edge of a program, under a valid annotation
+  -- so it is preserved along an edge of a program, for a valid annotation
   pub edge_keeps : (limits : Limits) (program : List Insn) (a : Annotation) → IsValid limits program a → (from to : ℕ) (along : Edge) (edge : HasEdge program from along to) → from < unit_count program → to < unit_count program → NewOf from (a from) edge.insn → AllHeld (a from).held → AllHeld (a to).held
   edge_keeps limits program a valid from to along edge inside_from inside new h =
       let held : HoldsAt limits a (unit_count program) from edge.insn = valid.each from edge.insn inside_from edge.begins in

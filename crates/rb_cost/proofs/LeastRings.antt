@@ -1,4 +1,4 @@
--- The smallest ring of more than so many bytes.
+-- The smallest ring of more than n bytes.
 use Rattle.std.proofs.Common.{◌≡◌, ◌⊎◌, inl, inr, ⊎_elim, ℕ, zero, suc, ◌+◌, ◌-◌, ◌<◌, ◌≤◌, ◌^◌, refl, sym, ◌∙◌, ap, subst, Bool, true, false, cond, List, [], ◌∷◌, Option, Some, None, find, arith, lit≤, lit<}
 use Rattle.std.proofs.Math.Pow.{pow_mono}
 use Rattle.std.specs.Prelude.{nat_lt}
@@ -34,12 +34,12 @@ first_above n (x ∷ xs) ascends = by_test (nat_lt n x) refl (first_above n xs a
     by_test true is rest_is = (inl refl, ltb-true n x is, λ other there lt. ⊎_elim (λ same. omega arith) (λ rest. let above : x < other = ascends.0 other rest in omega arith) there)
     by_test false is rest_is = later (find (λ size. nat_lt n size) xs) (λ lt. let not : x ≤ n = grind (arith, nat_tests) in omega arith) rest_is
 
--- a number is below each of a list
+-- a number is below each number of a list
 above_all : (x : ℕ) (xs : List ℕ) → AllByRecursion (λ n. x < n) xs → (n : ℕ) → IsAmong n xs → x < n
 above_all x [] h n there = absurd there
 above_all x (y ∷ ys) h n there = ⊎_elim (λ same. subst (λ m. x < m) (sym same) h.0) (λ rest. above_all x ys h.1 n rest) there
 
--- each is the size of a ring
+-- each number of the list is the size of a ring
 all_sizes : AllByRecursion IsRingSize ring_sizes
 all_sizes = (((12, refl), lit≤ tt, lit≤ tt), (((13, refl), lit≤ tt, lit≤ tt), (((14, refl), lit≤ tt, lit≤ tt), (((15, refl), lit≤ tt, lit≤ tt), (((16, refl), lit≤ tt, lit≤ tt), (((17, refl), lit≤ tt, lit≤ tt), (((18, refl), lit≤ tt, lit≤ tt), (((19, refl), lit≤ tt, lit≤ tt), (((20, refl), lit≤ tt, lit≤ tt), (((21, refl), lit≤ tt, lit≤ tt), (((22, refl), lit≤ tt, lit≤ tt), (((23, refl), lit≤ tt, lit≤ tt), (((24, refl), lit≤ tt, lit≤ tt), (((25, refl), lit≤ tt, lit≤ tt), (((26, refl), lit≤ tt, lit≤ tt), tt)))))))))))))))
 
@@ -64,7 +64,7 @@ among_powers (suc (suc (suc (suc (suc (suc (suc (suc (suc (suc (suc (suc (suc ze
 among_powers (suc (suc (suc (suc (suc (suc (suc (suc (suc (suc (suc (suc (suc (suc zero)))))))))))))) le = inr (inr (inr (inr (inr (inr (inr (inr (inr (inr (inr (inr (inr (inr (inl refl))))))))))))))
 among_powers (suc (suc (suc (suc (suc (suc (suc (suc (suc (suc (suc (suc (suc (suc (suc j))))))))))))))) le = absurd (omega arith)
 
--- and each size of a ring is among them
+-- and each size of a ring is in the list
 among_sizes : (other : ℕ) → IsRingSize other → IsAmong other ring_sizes
 among_sizes other ((k, is), least, most) =
     let low : 12 ≤ k = ⊎_elim (λ lt. let small : 2 ^ k ≤ 2 ^ 11 = pow_mono {i = k} {j = 11} (omega arith) in omega arith) (λ le. le) (cases_lt k 12) in

@@ -1,4 +1,4 @@
--- Each step goes along an edge of its instruction, and each call asks for the record that its registers name.
+-- Each step follows an edge of its instruction, and each call requests the record that its registers name.
 use Rattle.std.proofs.Common.{◌≡◌, ℕ, ◌+◌, ◌≤◌, ℤ, pos, refl, sym, ap, subst, Bool, true, false, List, length, take, drop, Option, Some, None, option_and_then, arith}
 use Rattle.std.specs.Prelude.{nat_le, if◌then◌else◌}
 use Rattle.std.specs.Ordering.{int_eq}
@@ -50,7 +50,7 @@ abbrev pub IsNamedAt : ℕ → HelperCall → Type 0
 IsNamedAt unit (Reserve id ring len flags) = id ≡ unit
 IsNamedAt unit call = Unit {0}
 
--- where an instruction leads, and what it asks for
+-- where an instruction leads, and what it requests
 abbrev pub Moves : Insn → State → StepEffect → Type 0
 Moves insn s (Goes t) = (along : Edge) × (edge_target s.unit insn along ≡ Some t.unit)
 Moves insn s (Ends n) = Unit {0}
@@ -112,7 +112,7 @@ moves_ended s v = tt
 
 -- ---- calls
 
--- as many bytes are read as are asked for
+-- as many bytes are read as are requested
 length-byte_range : (len at : ℕ) (bytes found : List ℕ) → byte_range len bytes at ≡ Some found → length found ≡ len
 length-byte_range len at bytes found e = by_test (nat_le (at + len) (length bytes)) refl e
   where
@@ -148,7 +148,7 @@ length-pointed m Nothing by len found e = absurd (cc)
 length-pointed m (Number n) by len found e = absurd (cc)
 length-pointed m (Ring n) by len found e = absurd (cc)
 
--- what is asked for is what the registers name
+-- the requested record is the one that the registers name
 abbrev AsksFor : Option Asked → State → StepEffect → Type 0
 AsksFor named s (Asks call t) = (asked_by_call call ≡ named) × IsNamedAt s.unit call
 AsksFor named s effect = Unit {0}
@@ -187,7 +187,7 @@ module _ (s : State) where
   asks_called (Some helper.Output) = asks_output (register s 1) (register s 2) (register s 3) (register s 4)
   asks_called (Some helper.Query) = asks_query (register s 1) (register s 2)
 
-  -- a call never goes on at once
+  -- a call never continues immediately
   moves_called : (code : ℕ) (called : Option Helper) → helper_of code ≡ called → Moves (Call code) s (waits_for (call_of_helper called s))
   moves_called code called there = by_effect (call_of_helper called s) (subst (λ named. AsksFor named s (waits_for (call_of_helper called s))) (ap (λ found. named_for found s) (sym there)) (asks_called called))
     where

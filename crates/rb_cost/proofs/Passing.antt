@@ -18,7 +18,7 @@ path_to (by_edge {from} {to} along reached edge) =
     let before = path_to reached in
     (from ∷ before.0, ((along, edge), before.1))
 
--- the sum of a path, by its last unit and the path before it
+-- the sum along a path, by its last unit and the path before it
 pub total-cons : (weight : ℕ → ℕ) (unit : ℕ) (path : List ℕ) → total weight (unit ∷ path) ≡ weight unit + total weight path
 total-cons weight unit path = sum_by-cons weight unit path
 
@@ -29,7 +29,7 @@ leads_inside program laid_out shaped unit insn begins along to leads_to =
     begins-lt program to there.0 there.1
 
 module _ (program : List Insn) (weight : ℕ → ℕ) where
-  -- the last unit of a path is one at which an instruction begins
+  -- an instruction begins at the last unit of a path
   pub last_begins : IsInstructionStart program 0 → EdgesLeadForward program → (unit : ℕ) (path : List ℕ) → IsPath program (unit ∷ path) → IsInstructionStart program unit
   last_begins first forward unit [] at = subst (IsInstructionStart program) (sym at) first
   last_begins first forward unit (from ∷ path) is = (forward from is.0.0 unit is.0.1).1
@@ -63,7 +63,7 @@ module _ (program : List Insn) (weight : ℕ → ℕ) where
     }
 
     module _ (forward : EdgesLeadForward program) (insn : Insn) (begins : slot_at program unit ≡ Some insn) where
-      -- no path to the unit comes to more
+      -- no path to the unit has a greater sum
       above_here : (path : List ℕ) → IsPath program (unit ∷ path) → total weight (unit ∷ path) ≤ slice_index before unit + weight unit
       above_here [] at = let sums : total weight (unit ∷ []) ≡ weight unit + total weight [] = total-cons weight unit [] in omega arith
       above_here (from ∷ path) is =
@@ -72,7 +72,7 @@ module _ (program : List Insn) (weight : ℕ → ℕ) where
           let sums : total weight (unit ∷ from ∷ path) ≡ weight unit + total weight (from ∷ path) = total-cons weight unit (from ∷ path) in
           omega arith
 
-      -- and one comes to this
+      -- and one path has this sum
       reached_here : IsReached program unit → (path : List ℕ) × IsPath program (unit ∷ path) × (total weight (unit ∷ path) ≡ slice_index before unit + weight unit)
       reached_here reached = ⊎_elim from_nothing from_earlier (h.arrived unit)
         where
@@ -93,7 +93,7 @@ module _ (program : List Insn) (weight : ℕ → ℕ) where
         here_path : (path : List ℕ) × IsPath program (unit ∷ path) × (total weight (unit ∷ path) ≡ slice_index before unit + weight unit)
         here_path = reached_here reached
 
-        -- what may be noted at a unit: nothing, or what some path comes to, and no more than so many units can
+        -- the possible maximum at a unit: nothing, or the sum along some path, within the bound for this many units
         abbrev Noted : ℕ → ℕ → Type 0
         Noted to m = ((m ≡ 0) ⊎ ArrivesWith program weight to m) × (m ≤ to * 2 ^ 27)
 
@@ -111,7 +111,7 @@ module _ (program : List Insn) (weight : ℕ → ℕ) where
             (λ raised. subst (Noted to) (sym raised.1) (noted_here along to raised.0))
             (r.exact to)
 
-        -- one turn of the pass
+        -- one step of the pass
         pub advance : (between after : List ℕ) → Raises (edge_target unit insn Target) n before between → Raises (edge_target unit insn Next) n between after → Progress program weight after (max most n) (unit + 1)
         advance between after f g = record {
           count = g.count ∙ (f.count ∙ h.count);
@@ -158,7 +158,7 @@ module _ (program : List Insn) (weight : ℕ → ℕ) where
                 let old : max most n ≡ most = omega arith in
                 subst (λ m. (m ≡ 0) ⊎ SomePath program weight m) (sym old) h.found
 
-    -- at the end the most of all paths is known
+    -- at the end, the maximum over all paths is known
     pub most_end : unit ≡ unit_count program → IsInstructionStart program 0 → EdgesLeadForward program → IsMost (IsPath program) (total weight) most
     most_end last first forward = record {
       reached = ⊎_elim

@@ -1,24 +1,22 @@
--- The room rule by the bytes that were not taken, and by the jobs that they belong to.
-use Rattle.std.proofs.Common.{◌≡◌, inl, inr, ℕ, ◌+◌, ◌-◌, ◌*◌, ◌<◌, ◌≤◌, refl, sym, ◌∙◌, ap, subst, suc, cond, List, [], ◌∷◌, ◌++◌, length, get_or, arith, append_assoc}
+-- The room rule by the untaken bytes, and by the jobs that they belong to.
+use Rattle.std.proofs.Common.{◌≡◌, inl, inr, ℕ, ◌+◌, ◌-◌, ◌*◌, ◌≤◌, refl, sym, ◌∙◌, ap, suc, cond, List, [], ◌∷◌, length, get_or, arith}
 use Rattle.std.proofs.Math.Nat.{mul-le-mul_right}
 use Rattle.std.specs.Prelude.{◌==◌}
-use Rattle.std.specs.List.{All, Contains, sum_by, count_by}
+use Rattle.std.specs.List.{All, Contains, sum_by}
 use Rattle.std.proofs.lemmas.Bool.{cases_eq, eq-eqb, ne_eqb}
 use Rattle.std.proofs.lemmas.List.Elements.{Contains-get_or}
 use Rattle.std.proofs.lemmas.List.Sums.{sum_by-cons, get_or-le-sum_by, sum_by-le}
 use Rattle.rb_history.specs.declared.entries.Entry.{Entry}
-use Rattle.rb_history.specs.declared.entries.Entry.TheVariants.{Res, Full, Sub, Dis, Take}
 use Rattle.rb_history.specs.Span.{span}
 use Rattle.rb_history.specs.History.{Shown, records, producer_of, consumer_of}
-use Rattle.rb_history.specs.Counting.{is_refusal_entry}
 use Rattle.rb_history.specs.Legal.{IsLegal}
-use Rattle.rb_history.specs.RoomRule.{Setup, HasRoomFor}
+use Rattle.rb_history.specs.RoomRule.{Setup}
 use Rattle.rb_history.specs.inner.RecordRows.{InRow}
-use Rattle.rb_history.proofs.Laws.{legal-front, kept-from-legal}
+use Rattle.rb_history.proofs.Laws.{kept-from-legal}
 use Rattle.rb_history.proofs.Lists.{sum_by-add}
-use Rattle.rb_cost.specs.RingSize.{untaken_bytes, IsBelowLimit, RoomIsLeft, AreOfJobs, NoneIsRefusedBehind, NoneIsRefused}
+use Rattle.rb_cost.specs.RingSize.{untaken_bytes, RoomIsLeft, AreOfJobs, NoneIsRefusedBehind}
 
--- records that stand one behind the other reach as far as their spans
+-- consecutive records cover the sum of their spans
 row_sum : (from : ℕ) (ss : List Shown) (to : ℕ) → InRow from ss to → from + sum_by (λ s. span s.len) ss ≡ to
 row_sum from [] to h = let same : from ≡ to = h in omega arith
 row_sum from (s ∷ ss) to h =
@@ -26,7 +24,7 @@ row_sum from (s ∷ ss) to h =
     let more : sum_by (λ (s : Shown). span s.len) (s ∷ ss) ≡ span s.len + sum_by (λ (s : Shown). span s.len) ss = sum_by-cons (λ (s : Shown). span s.len) s ss in
     omega arith
 
--- the untaken bytes stand between the two positions
+-- the untaken bytes lie between the two positions
 pub untaken-positions : (r : Setup) (h : List Entry) → IsLegal r h → consumer_of r.start h + untaken_bytes h ≡ producer_of r.start h
 untaken-positions r h legal = row_sum (consumer_of r.start h) (records h) (producer_of r.start h) (kept-from-legal r h legal).in_row
 
@@ -40,7 +38,7 @@ room_left r h n legal limit =
 
 -- ---- jobs
 
--- what belongs to a job of a list is among the sums of the jobs of the list
+-- a job of the list contributes to the sum over the list
 one_job : (x v : ℕ) (jobs : List ℕ) → Contains jobs x → v ≤ sum_by (λ j. cond (x == j) v 0) jobs
 one_job x v jobs (k, lt, is) =
     let part : cond (x == get_or jobs k x) v 0 ≤ sum_by (λ j. cond (x == j) v 0) jobs = get_or-le-sum_by (λ j. cond (x == j) v 0) jobs k x lt in
@@ -62,7 +60,7 @@ module _ (job : Shown → ℕ) (jobs : List ℕ) where
       let more : sum_by (λ (s : Shown). span s.len) (s ∷ ss) ≡ span s.len + sum_by (λ (s : Shown). span s.len) ss = sum_by-cons (λ (s : Shown). span s.len) s ss in
       omega arith
 
-  -- no more than so many bytes for each job
+  -- at most `most` bytes for each job
   within_jobs : (asking most n : ℕ) (h : List Entry) → AreOfJobs job jobs asking most h n → untaken_bytes h + span n ≤ length jobs * most
   within_jobs asking most n h are =
       let old : untaken_bytes h ≤ sum_by (of_job (records h)) jobs = by_jobs (records h) are.untaken in
@@ -82,30 +80,3 @@ none_behind r h n workers behind most job jobs asking legal limit are few large 
     let within : untaken_bytes h + span n ≤ length jobs * most = within_jobs job jobs asking most n h are in
     let more : length jobs * most ≤ (behind + workers) * most = mul-le-mul_right most few in
     (room_left r h n legal limit).granted (omega arith)
-
-module _ (r : Setup) (h : List Entry) (workers behind most : ℕ) (legal : IsLegal r h) (large : (behind + workers) * most < r.size)
-    (premise : (before after : List Entry) (w n : ℕ) → h ≡ before ++ Full w n ∷ after → (job : Shown → ℕ) × (jobs : List ℕ) × (asking : ℕ) × IsBelowLimit r before n × AreOfJobs job jobs asking most before n × (length jobs ≤ behind + workers)) where
-  not_full : (before after : List Entry) (w n : ℕ) → h ≡ before ++ Full w n ∷ after → ⊥
-  not_full before after w n is =
-      let p = premise before after w n is in
-      let front : IsLegal r before = legal-front r before (Full w n ∷ after) (subst (IsLegal r) is legal) in
-      let room : HasRoomFor r before n = none_behind r before n workers behind most p.0 p.1 p.2 front p.3 p.4 p.5 large in
-      (legal.each before (Full w n) after is).1 room
-
-  -- no entry of the rest refuses a record
-  none_in : (before rest : List Entry) → h ≡ before ++ rest → count_by is_refusal_entry rest ≡ 0
-  none_in before [] is = refl
-  none_in before (e ∷ rest) is =
-      let further : h ≡ (before ++ e ∷ []) ++ rest = is ∙ sym (append_assoc before (e ∷ []) rest) in
-      let others : count_by is_refusal_entry rest ≡ 0 = none_in (before ++ e ∷ []) rest further in
-      sum_by-cons (λ x. cond (is_refusal_entry x) 1 0) e rest ∙ (ap (λ n. cond (is_refusal_entry e) 1 0 + n) others ∙ none_here e is)
-    where
-      none_here : (e : Entry) → h ≡ before ++ e ∷ rest → cond (is_refusal_entry e) 1 0 + 0 ≡ 0
-      none_here (Res w k n p) is = refl
-      none_here (Full w n) is = absurd (not_full before rest w n is)
-      none_here (Sub p) is = refl
-      none_here (Dis p) is = refl
-      none_here (Take p) is = refl
-
-pub none_refused : NoneIsRefused
-none_refused r h workers behind most legal large premise = none_in r h workers behind most legal large premise [] h refl

@@ -60,14 +60,14 @@ reserve_is s w (value.Ring n) (value.Number len) (value.Number flags) ring call 
     (len, flags, sym is ∙ ap (λ r. meaning.Reserve s.unit r len flags) same)
 reserve_is s w v x y ring call e h = absurd (cc)
 
--- two values that are as is known name the record that is known
+-- two values that agree with the abstract ones name the record that is known
 known_named : (records : List (ℕ × List ℕ)) (x y : Abs) (v w : Value) → AgreesValue records x v → AgreesValue records y w → AreKnown x y → named_by v w ≡ record_of x y
 known_named records x y v w first second k =
     let ring : v ≡ value.Ring k.ring = subst (λ x. AgreesValue records x v) k.ring_is first in
     let len : w ≡ value.Number k.len = subst (λ y. AgreesValue records y w) k.len_is second in
     ap (λ v. named_by v w) ring ∙ (ap (λ w. named_by (value.Ring k.ring) w) len ∙ sym (known-record_of x y k))
 
--- what is granted is what was asked for, or nothing
+-- what is granted is what was requested, or nothing
 granted_cases : (call : Option HelperCall) (answer : Option HelperAnswer) (asked : Option Asked) → ((c : HelperCall) → call ≡ Some c → asked_by_call c ≡ asked) → (granted_to call answer ≡ None) ⊎ (granted_to call answer ≡ asked)
 granted_cases (Some (meaning.Reserve id ring len flags)) (Some meaning.Granted) asked h = inr (h _ refl)
 granted_cases (Some (meaning.Output ring bytes flags)) (Some (meaning.Code (pos ℕ.zero))) asked h = inr (h _ refl)
@@ -87,7 +87,7 @@ module _ (subject : Subject) (a : Annotation) (valid : IsValid (limits_of subjec
     insn : Insn
     insn = u.begins.0
 
-    -- the registers name the record that is known to be asked for
+    -- the registers name the record whose request is known
     helper_named : (called : Option Helper) (e : _) → check_call (limits_of subject) s.unit called (a s.unit) ≡ Ok e → named_for called s ≡ asked_of_helper called (a s.unit)
     helper_named None e ok = refl
     helper_named (Some Output) e ok = known_named s.memory.records _ _ (register s 1) (register s 3) (u.agrees.values 1) (u.agrees.values 3) (output_ring_known (limits_of subject) s.unit (a s.unit) e ok)
@@ -109,7 +109,7 @@ module _ (subject : Subject) (a : Annotation) (valid : IsValid (limits_of subjec
     moves_here : (effect : StepEffect) → next_step program s ≡ effect → Moves u.begins.0 s effect
     moves_here effect is = subst (Moves u.begins.0 s) (sym (step_is subject s u.begins.0 u.begins.1) ∙ is) (moves u.begins.0 s)
 
-    -- a call asks for the record that is known, and is made by a CALL
+    -- a call requests the record that is known, and is made by a CALL
     pub call_asks : (effect : StepEffect) → next_step program s ≡ effect → (c : HelperCall) → call_of effect ≡ Some c → (asked_by_call c ≡ asked_at program a s.unit) × IsNamedAt s.unit c × (calls (slot_at program s.unit) ≡ true)
     call_asks (Asks call w) is c same =
         let e : call ≡ c = cc in
@@ -139,7 +139,7 @@ module _ (subject : Subject) (a : Annotation) (valid : IsValid (limits_of subjec
     leads_on (Ends n) is answer t e = absurd e
     leads_on Stuck is answer t e = absurd e
 
-  -- ---- rings of what is held
+  -- ---- the rings of the records that are held
 
   -- the record of a reference was reserved on its ring
   abbrev pub HasRing : List Moment → Reference → Type 0
@@ -194,7 +194,7 @@ module _ (subject : Subject) (a : Annotation) (valid : IsValid (limits_of subjec
   abbrev pub units : List Moment → List ℕ
   units moments = map (λ m. m.state.unit) moments
 
-  -- how far a run has come
+  -- the progress of a run
   pub record HasCome (m : Moment) (before : List Moment) : Type 0 where
     pub can : Can m.state
     pub all : AllByRecursion (λ m. Can m.state) before
@@ -241,7 +241,7 @@ module _ (subject : Subject) (a : Annotation) (valid : IsValid (limits_of subjec
       let right : sum_by g (m.state.unit ∷ units moments) ≡ g m.state.unit + sum_by g (units moments) = sum_by-cons g m.state.unit (units moments) in
       omega arith
 
-  -- what is granted at a moment is no more than what is asked for there
+  -- what is granted at a moment is at most what is requested there
   granted_below : (f : Option Asked → ℕ) → f None ≡ 0 → (m : Moment) → Can m.state → f (granted_at program m) ≤ f (asked_at program a m.state.unit)
   granted_below f none m u =
       ⊎_elim
@@ -249,7 +249,7 @@ module _ (subject : Subject) (a : Annotation) (valid : IsValid (limits_of subjec
       (λ same. let e : f (granted_at program m) ≡ f (asked_at program a m.state.unit) = ap f same in omega arith)
       (granted_cases (call_at program m) m.answer (asked_at program a m.state.unit) (λ c is. (call_asks m.state u (next_step program m.state) refl c is).0))
 
-  -- what the call of a moment asks for is what is known to be asked for there
+  -- what the call of a moment requests is what is known to be requested there
   asked_below : (f : Option Asked → ℕ) → f None ≡ 0 → (m : Moment) → Can m.state → f (requested_at program m) ≤ f (asked_at program a m.state.unit)
   asked_below f none m u = by_call (call_at program m) refl
     where
@@ -264,7 +264,7 @@ module _ (subject : Subject) (a : Annotation) (valid : IsValid (limits_of subjec
       by_call None is = omega arith
       by_call (Some c) is = rw ((call_asks m.state u (next_step program m.state) refl c is).2) (omega arith)
 
-  -- what is held is no more than what is known to be
+  -- what is held is at most what is known to be held
   held_below : (P : Reference → Type 0) (f : ℕ × List ℕ → ℕ) (g : Reference → ℕ) → ((q : Reference) (r : ℕ × List ℕ) → q.id ≡ r.0 → length r.1 ≡ q.size → P q → f r ≤ g q) → (held : List Reference) (records : List (ℕ × List ℕ)) → AreHeld held records → AllByRecursion P held → sum_by f records ≤ sum_by g held
   held_below P f g each [] [] h k = omega arith
   held_below P f g each [] (r ∷ records) h k = absurd h

@@ -1,4 +1,4 @@
--- The records of a valid annotation are of bounded length: those that are held, and those for which an instruction asks.
+-- The records of a valid annotation have bounded lengths: those that are held, and those that an instruction requests.
 use Rattle.std.proofs.Common.{◌≡◌, ℕ, ◌+◌, ◌^◌, ◌<◌, ◌≤◌, refl, sym, subst, Bool, true, false, cond, List, [], ◌∷◌, Ok, Option, Some, None, arith}
 use Rattle.std.specs.Prelude.{pos, find, not, IfSome, ◌+ℤ◌}
 use Rattle.rb_insn.specs.declared.insn.Insn.{Insn}
@@ -41,7 +41,7 @@ small_found id (r ∷ held) h =
     let rest : IfSome (find (has_id id) held) IsSmallReference = small_found id held h.1 in
     elim (has_id id r) as (λ b. IfSome (cond b (Some r) (find (has_id id) held)) IsSmallReference) [ true ↦ h.0 | false ↦ rest ]
 
--- a reservation is of a bounded length
+-- a reservation has a bounded length
 new_small : (unit : ℕ) (s : AbsState) (insn : Insn) → NewOf IsSmallReference (λ r h. h) unit s insn
 new_small unit s (Call code) = by_helper (helper_of code)
   where
@@ -62,13 +62,13 @@ reached_small limits program a valid forward {unit} (by_edge {from} along reache
     let inside_from : from < unit_count program = omega arith in
     edge_keeps IsSmallReference (λ r h. h) limits program a valid from unit along edge inside_from inside (new_small from (a from) edge.insn) (reached_small limits program a valid forward reached inside_from)
 
--- ---- and so are the records for which an instruction asks
+-- ---- and so have the records that an instruction requests
 
 not_false : (b : Bool) → not b ≡ false → b ≡ true
 not_false true e = refl
 not_false false e = absurd (cc)
 
--- as many bytes as lie in a part are not many
+-- the number of bytes within a part is bounded
 reach_bounded : (limits : Limits) (held : List Reference) (v : Abs) (len : ℕ) → limits.ctx_len ≤ 65536 → AreSmall held → reaches limits held v (pos 0) len ≡ true → len ≤ 2 ^ 26
 reach_bounded limits held (Ctx o) len context h is = let range = from_zero (o +ℤ pos 0) len limits.ctx_len is in let fits : range.at + len ≤ limits.ctx_len = range.fits in omega arith
 reach_bounded limits held (Stack o) len context h is = let range = in_stack (o +ℤ pos 0) len is in let fits : range.at + len ≤ 512 = range.fits in omega arith
@@ -101,7 +101,7 @@ module _ (limits : Limits) (unit : ℕ) (s : AbsState) (e : Effect) where
       let size = record_size_passed (value_in s 2) two.value two.first in
       (record { ring = one.value; len = two.value; ring_is = ring_passed (value_in s 1) one.value one.first; len_is = size.0 }, size.1)
 
-  -- how far its checks came, and what they know then
+  -- the checks of an output that succeeded, and what they established
   record OutputChecks : Type 0 where
     known : AreKnown (value_in s 1) (value_in s 3)
     inside : reaches limits s.held (value_in s 2) (pos 0) known.len ≡ true
@@ -142,7 +142,7 @@ module _ (limits : Limits) (unit : ℕ) (s : AbsState) (e : Effect) where
   insn_small context small (Call helper) ok = helper_small context small (helper_of helper) ok
   insn_small context small insn ok = tt
 
--- the record for which the instruction at a unit asks has a bounded length
+-- the record that the instruction at a unit requests has a bounded length
 pub asked_small : (limits : Limits) (program : List Insn) (a : Annotation) → limits.ctx_len ≤ 65536 → EdgesLeadForward program → AllIsReached program → IsValid limits program a → (unit : ℕ) → IsSmall (asked_at program a unit)
 asked_small limits program a context forward reached valid unit = by_slot (slot_at program unit) refl
   where

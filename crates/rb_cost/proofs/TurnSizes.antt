@@ -32,7 +32,7 @@ by_size size workers cost false is = grind (arith, nat_tests)
 pub turns_fit : TurnsFit
 turns_fit size workers cost = by_size size workers cost (nat_lt (workers * cost) size) refl
 
--- turns can be taken where one context of every worker fits, and only there
+-- turns are possible if and only if one context of every worker fits
 some_turn : (size workers cost : ℕ) (b : Bool) (n : ℕ) → workers * cost < size → nat_lt (workers * cost) size ≡ b → cond b (Some n) None ≢ None
 some_turn size workers cost true n lt is = λ e. cc
 some_turn size workers cost false n lt is = absurd (let not : size ≤ workers * cost = grind (arith, nat_tests) in omega arith)

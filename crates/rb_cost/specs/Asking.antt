@@ -1,4 +1,5 @@
--- What an instruction asks a ring for, by what is known before it (bpf-helpers(7): bpf_ringbuf_reserve, bpf_ringbuf_output).
+-- The record that an instruction requests from a ring, given the abstract state before it (bpf-helpers(7):
+-- bpf_ringbuf_reserve, bpf_ringbuf_output).
 use Rattle.std.specs.Prelude.{ℕ, ◌==◌, Bool, false, List, Option, Some, None, if◌then◌else◌}
 use Rattle.rb_insn.specs.declared.insn.Insn.{Insn}
 use Rattle.rb_insn.specs.declared.insn.Insn.TheVariants.{Call}
@@ -15,18 +16,18 @@ use Rattle.rb_verifier.specs.Annotation.{Annotation}
 use Rattle.rb_history.specs.Span.{span}
 use Rattle.rb_cost.specs.declared.asking.Asked.{Asked}
 
--- a record of a ring, where the ring and the length in bytes are known
+-- a record of a ring, if the ring and the length in bytes are known
 abbrev pub record_of : Abs → Abs → Option Asked
 record_of (Ring ring) (Known len) = Some (record { ring = ring; len = len })
 record_of ring len = None
 
--- reserve(ring, size, flags) and output(ring, data, size, flags) ask for a record; the other helpers ask for none
+-- reserve(ring, size, flags) and output(ring, data, size, flags) request a record; the other helpers request none
 abbrev pub asked_of_helper : Option Helper → AbsState → Option Asked
 asked_of_helper (Some Reserve) s = record_of (value_in s 1) (value_in s 2)
 asked_of_helper (Some Output) s = record_of (value_in s 1) (value_in s 3)
 asked_of_helper helper s = None
 
--- a CALL asks for what its helper does
+-- a CALL requests what its helper does
 abbrev pub asked_by : Insn → AbsState → Option Asked
 asked_by (Call helper) s = asked_of_helper (helper_of helper) s
 asked_by insn s = None
@@ -35,7 +36,7 @@ abbrev pub asked_in : Option Insn → AbsState → Option Asked
 asked_in None s = None
 asked_in (Some insn) s = asked_by insn s
 
--- the record for which the instruction at a unit asks, by what an annotation knows there
+-- the record that the instruction at a unit requests, by an annotation's state there
 abbrev pub asked_at : List Insn → Annotation → ℕ → Option Asked
 asked_at program a unit = asked_in (slot_at program unit) (a unit)
 
@@ -44,7 +45,7 @@ abbrev pub is_on : ℕ → Option Asked → Bool
 is_on ring None = false
 is_on ring (Some asked) = asked.ring == ring
 
--- how many bytes of this ring the record takes: its span
+-- the number of bytes of this ring that the record occupies: its span
 abbrev pub bytes_on : ℕ → Option Asked → ℕ
 bytes_on ring None = 0
 bytes_on ring (Some asked) = if asked.ring == ring then span asked.len else 0
@@ -53,6 +54,6 @@ bytes_on ring (Some asked) = if asked.ring == ring then span asked.len else 0
 abbrev pub is_of_ring : ℕ → Reference → Bool
 is_of_ring ring reference = reference.ring == ring
 
--- how many bytes of this ring the record of a reference takes
+-- the number of bytes of this ring that the record of a reference occupies
 abbrev pub held_span : ℕ → Reference → ℕ
 held_span ring reference = if reference.ring == ring then span reference.size else 0

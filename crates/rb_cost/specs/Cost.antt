@@ -1,4 +1,4 @@
--- What a program can cost at most.
+-- The maximal cost of a program.
 use Rattle.std.specs.Prelude.{◌≡◌, ℕ, ◌<◌, List, length, count_by, sum_by, slice_index_or}
 use Rattle.rb_insn.specs.declared.insn.Insn.{Insn}
 use Rattle.rb_program.specs.Program.{slot_at}
@@ -10,7 +10,8 @@ use Rattle.rb_cost.specs.declared.cost.RingCost.{RingCost}
 use Rattle.rb_cost.specs.Paths.{IsPath, IsMost}
 use Rattle.rb_cost.specs.Asking.{asked_at, is_on, bytes_on, is_of_ring, held_span}
 
--- of the records of one ring: the most for which the calls of a path ask, their bytes, and the most that are held before one instruction
+-- for one ring: the most records that the calls of a path request, their bytes, and the most records and bytes that are
+-- held before an instruction
 pub record IsRingCost (program : List Insn) (a : Annotation) (ring : ℕ) (cost : RingCost) : Type 0 where
   pub records : IsMost (IsPath program) (λ path. count_by (λ unit. is_on ring (asked_at program a unit)) path) cost.records
   pub bytes : IsMost (IsPath program) (λ path. sum_by (λ unit. bytes_on ring (asked_at program a unit)) path) cost.bytes
@@ -21,13 +22,13 @@ pub record IsRingCost (program : List Insn) (a : Annotation) (ring : ℕ) (cost 
 abbrev pub no_ring_cost : RingCost
 no_ring_cost = record { records = 0; bytes = 0; held_records = 0; held_bytes = 0 }
 
--- of the paths of a program: the most instructions, the most calls, and what they ask each ring for
+-- for the paths of a program: the most instructions, the most calls, and what they request from each ring
 pub record IsCostUnder (program : List Insn) (a : Annotation) (ring_count : ℕ) (cost : Cost) : Type 0 where
   pub steps : IsMost (IsPath program) (λ path. length path) cost.steps
   pub calls : IsMost (IsPath program) (λ path. count_by (λ unit. calls (slot_at program unit)) path) cost.calls
   pub count : length cost.rings.items ≡ ring_count
   pub rings : (ring : ℕ) → ring < ring_count → IsRingCost program a ring (slice_index_or cost.rings.items ring no_ring_cost)
 
--- the cost of a verified program: each valid annotation knows the same of what it asks for and holds
+-- the cost of a verified program, by any of its valid annotations, which agree on what it requests and holds
 abbrev pub IsCost : Subject → Cost → Type 0
 IsCost subject cost = (a : Annotation) → IsValid (limits_of subject) subject.program a → IsCostUnder subject.program a subject.rings cost

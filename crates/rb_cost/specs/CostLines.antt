@@ -1,4 +1,4 @@
--- What is printed of a cost (own).
+-- The lines that are printed about a cost (own).
 use Rattle.std.specs.Prelude.{ℕ, zero, suc, ◌+◌, ◌*◌, List, [], ◌++◌, codes, Option, Some, None, length, slice_index_or}
 use Rattle.std.specs.Fmt.{decimal}
 use Rattle.rb_json.specs.declared.form.LineForm.{LineForm}
@@ -9,12 +9,12 @@ use Rattle.rb_cost.specs.declared.ring_size.JobsAtOnce.{JobsAtOnce}
 use Rattle.rb_cost.specs.Cost.{no_ring_cost}
 use Rattle.rb_cost.specs.RingSize.{least_ring}
 
--- that the program was accepted, and what its paths cost
+-- the program was accepted, and the cost of its paths
 abbrev pub front_text : LineForm → Cost → List ℕ
 front_text Words cost = codes "accepted\nsteps " ++ decimal cost.steps ++ codes " calls " ++ decimal cost.calls ++ codes "\n"
 front_text Json cost = codes "{\"accepted\":true,\"steps\":" ++ decimal cost.steps ++ codes ",\"calls\":" ++ decimal cost.calls ++ codes "}\n"
 
--- what they ask a ring for and hold of it
+-- what the paths request from a ring and hold there
 abbrev pub ring_text : LineForm → ℕ → RingCost → List ℕ
 ring_text Words ring cost =
     codes "ring " ++ decimal ring ++ codes " records " ++ decimal cost.records ++ codes " bytes " ++ decimal cost.bytes ++ codes " held " ++ decimal cost.held_bytes ++ codes "\n"
@@ -28,11 +28,11 @@ size_text Words ring None = codes "ring " ++ decimal ring ++ codes " size none\n
 size_text Json ring (Some size) = codes "{\"ring\":" ++ decimal ring ++ codes ",\"size\":" ++ decimal size ++ codes "}\n"
 size_text Json ring None = codes "{\"ring\":" ++ decimal ring ++ codes ",\"size\":null}\n"
 
--- the smallest ring of more bytes than the jobs ask for together that may have records in it at once
+-- the smallest ring larger than the number of bytes that the jobs request together that may have records in it at once
 abbrev pub size_for : JobsAtOnce → RingCost → Option ℕ
 size_for jobs cost = least_ring ((jobs.behind + jobs.workers) * cost.bytes)
 
--- the same where that is asked for
+-- its line, if it is requested
 abbrev pub chosen_text : LineForm → Option JobsAtOnce → ℕ → RingCost → List ℕ
 chosen_text form None ring cost = []
 chosen_text form (Some jobs) ring cost = size_text form ring (size_for jobs cost)

@@ -1,4 +1,4 @@
--- The moments of a whole run: what `ProgramRuns` says of a run is what its moments say one by one (own).
+-- The moments of a whole run: what `ProgramRuns` says about a run is what its moments say one by one (own).
 use Rattle.std.specs.Prelude.{◌≡◌, ℕ, List, [], ◌∷◌, ◌++◌, zip, Option, Some, None}
 use Rattle.rb_insn.specs.declared.insn.Insn.{Insn}
 use Rattle.rb_semantics.specs.ProgramStates.{State}
@@ -13,13 +13,13 @@ answered_by None call = []
 answered_by (Some answer) None = []
 answered_by (Some answer) (Some call) = (call, answer) ∷ []
 
--- the answered calls of some moments, the oldest first (of moments the last comes first)
+-- the answered calls of some moments, the oldest first (a list of moments has the last one first)
 abbrev pub calls_in : List Insn → List Moment → List (HelperCall × HelperAnswer)
 calls_in program [] = []
 calls_in program (m ∷ before) = calls_in program before ++ answered_by m.answer (call_at program m)
 
--- A run from a state that made these calls, which were answered so, has these moments: they begin in that state, their answered calls are those of the run,
--- and the last of them is as `End` says.
+-- A run from a state that made these calls, with these answers, has these moments: they begin in that state, their
+-- answered calls are those of the run, and the last of them meets `End`.
 pub record HasMoments (program : List Insn) (first : State) (calls : List HelperCall) (answers : List HelperAnswer) (End : Moment → Type 0) : Type 0 where
   pub last : Moment
   pub before : List Moment
@@ -27,8 +27,9 @@ pub record HasMoments (program : List Insn) (first : State) (calls : List Helper
   pub calls_are : calls_in program (last ∷ before) ≡ zip calls answers
   pub end : End last
 
--- A run that returned a number came to an instruction that ends the program with it. One that was handed a record back came to a call that was answered so.
--- Of a run that still waits for an answer, or has no meaning, nothing is said here: a verified program has none of these.
+-- A run that returned a number came to an instruction that ends the program with it. A run that was handed a record
+-- back came to a call with that answer. Nothing is stated about a run that still waits for an answer, or has no
+-- meaning: a verified program has no such runs.
 abbrev pub EndsAtMoment : List Insn → State → List HelperCall → List HelperAnswer → Outcome → Type 0
 EndsAtMoment program first calls answers (Returns n) = HasMoments program first calls answers (λ last. next_step program last.state ≡ Ends n)
 EndsAtMoment program first calls answers Strayed = HasMoments program first calls answers (λ last. last.answer ≡ Some HandedBack)

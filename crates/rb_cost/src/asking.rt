@@ -1,4 +1,4 @@
-//! What an instruction asks a ring for.
+//! The record that an instruction requests from a ring.
 
 ghost use Rattle.std.specs.Prelude.{◌≡◌, ◌≤◌, ◌^◌, Some};
 ghost use Rattle.rb_cost.specs.Asking.{asked_by};
@@ -9,7 +9,7 @@ use rb_history::span;
 use rb_insn::Insn;
 use rb_verifier::{Abs, AbsState, Helper};
 
-/// A record of a ring, for which a CALL asks.
+/// A record that a CALL requests from a ring.
 #[derive(Clone, Copy, Debug, PartialEq, Eq)]
 pub(crate) struct Asked {
     /// The ring's number.
@@ -18,7 +18,8 @@ pub(crate) struct Asked {
     pub(crate) len: u64,
 }
 
-/// The record for which an instruction asks, by what is known before it: none where it is no reserve and no output.
+/// Returns the record that an instruction requests, given the abstract state before it, or `None` if it is neither a
+/// reserve nor an output.
 fn asked_by(insn: &Insn, state: &AbsState) -> Option<Asked>
     ensures { result ≡ asked_by insn.now state.now }
 {
@@ -37,7 +38,7 @@ fn asked_by(insn: &Insn, state: &AbsState) -> Option<Asked>
     }
 }
 
-/// What an instruction counts on a path.
+/// Returns the instruction's contribution to what is counted along a path.
 pub(crate) fn weight(counted: Counted, insn: &Insn, state: &AbsState) -> u64
     requires { IsSmall (asked_by insn.now state.now) }
     ensures value { result ≡ weight_in counted (Some insn.now) state.now }

@@ -1,26 +1,26 @@
-//! What a program can cost at most.
+//! The maximal cost of a program.
 
-/// What a program can cost at most. Each number is reached by a path of the program, and passed by none.
+/// The maximal cost of a program. Each bound is exact: one path of the program reaches it, and none exceeds it.
 #[derive(Debug, Drop)]
 pub struct Cost {
-    /// The most instructions that a path executes: at most 4,096.
+    /// The maximal number of instructions that a path executes: at most 4,096.
     pub steps: u64,
-    /// The most helper calls that a path makes.
+    /// The maximal number of helper calls on a path.
     pub calls: u64,
-    /// What it asks of each ring that it knows, by the ring's number.
+    /// The cost at each ring that the program uses, by the ring's number.
     pub rings: Vec<RingCost>,
 }
 
-/// What a program can ask of one ring at most, and hold of it.
+/// The maximal number of records and bytes that a program requests from one ring, and that it holds there.
 #[derive(Clone, Copy, Debug, PartialEq, Eq)]
 pub struct RingCost {
-    /// The most records for which a path asks, by reserve and by output.
+    /// The maximal number of records that a path requests, by reserve and by output.
     pub records: u64,
-    /// The most bytes of the ring that the records of a path take: of each its span, eight bytes for its header and its length rounded up to eights.
-    /// At most 4,096 times 67,108,872.
+    /// The maximal number of bytes of the ring that the records of a path occupy. Each occupies its span: a header of
+    /// eight bytes and its length rounded up to a multiple of eight. At most 4,096 times 67,108,872.
     pub bytes: u64,
-    /// The most reservations that are held before one instruction: at most four.
+    /// The maximal number of reservations that are held before an instruction: at most four.
     pub held_records: u64,
-    /// The most bytes of the ring that those take which are held before one instruction.
+    /// The maximal number of bytes of the ring that the records occupy which are held before an instruction.
     pub held_bytes: u64,
 }

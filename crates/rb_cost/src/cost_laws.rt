@@ -1,30 +1,34 @@
-//! The laws on what runs cost, and on how large a ring must be.
+//! The laws about the cost of runs, and about the required size of a ring.
 
-ghost use Rattle.rb_cost.specs.RingSize.{NoneIsRefused, NoneIsRefusedBehind, RoomIsLeft};
+ghost use Rattle.rb_cost.specs.RingSize.{NoneIsRefusedBehind, RoomIsLeft};
 ghost use Rattle.rb_cost.specs.RunMoments.{RunsHaveMoments};
 ghost use Rattle.rb_cost.specs.Runs.{RunsStayWithin};
 
-/// Every run of a verified program stays within its cost at each of its moments, whatever its calls are answered: it took no more steps and made no more
-/// calls, it asked for no more records and bytes of any ring, by reserve and by output, was granted no more, and holds no more of any ring.
+/// The law that every run of a verified program stays within the program's cost at each of its moments, for any answers
+/// to its calls: it executed no more steps and calls, it requested no more records and bytes of a ring (by reserve and
+/// by output), it was granted no more, and it holds no more of a ring than the cost says. The function does nothing;
+/// its contract is the law.
 pub fn runs_stay_within_their_cost()
     ensures { RunsStayWithin }
 {}
 
-/// Every run of a program has moments, which the law above bounds: they begin in the run's first state, their calls and answers are the run's, and the last of
-/// them ends as the run does.
+/// The law that every run of a program has moments, which `runs_stay_within_their_cost` bounds: they begin in the run's
+/// first state, their calls and answers are the run's, and the last of them ends as the run does. The function does
+/// nothing; its contract is the law.
 pub fn runs_have_moments()
     ensures { RunsHaveMoments }
 {}
 
-/// The room rule for those who choose a size. Where no position passes 2^62, a record has room exactly where its span and the bytes that were not taken,
-/// those that wait included, are at most the ring's size less one.
+/// The law of the room rule for choosing a size: if no position exceeds 2^62, there is room for a record if and only if
+/// its span and the untaken bytes, including those of waiting records, are at most the ring's size minus one. The
+/// function does nothing; its contract is the law.
 pub fn room_is_what_is_left()
     ensures { RoomIsLeft }
 {}
 
-/// No record is refused for want of room where the ring has more bytes than the jobs ask for together whose records it may hold: those that the workers run,
-/// and those that the consumer is behind. Of one record, and of all that a history refuses.
+/// The law that a record is not refused for lack of room if the ring is larger than what some jobs request together,
+/// and its untaken records and this one belong to these jobs: those that the workers run, and those by which the
+/// consumer is late. The function does nothing; its contract is the law.
 pub fn none_is_refused_behind()
-    ensures one { NoneIsRefusedBehind }
-    ensures all { NoneIsRefused }
+    ensures { NoneIsRefusedBehind }
 {}

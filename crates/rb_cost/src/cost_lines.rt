@@ -1,4 +1,4 @@
-//! What is printed of a cost.
+//! The lines that are printed about a cost.
 
 ghost use Rattle.std.specs.Prelude.{◌≡◌, ◌++◌, IfOk, OnOk, string_bytes};
 ghost use Rattle.rb_cost.specs.CostLines.{chosen_text, cost_text, front_text, ring_text, size_text};
@@ -9,7 +9,7 @@ use rb_json::LineForm;
 use std::alloc::{AllocError, Global};
 use std::fmt::Write;
 
-// Adds that the program was accepted, and what its paths cost.
+// Appends that the program was accepted, and the cost of its paths.
 fn push_front(text: &mut String, form: LineForm, cost: &Cost) -> Result<(), AllocError>
     ensures added { OnOk result (string_bytes text.new ≡ string_bytes text.old ++ front_text form cost.now) }
 {
@@ -23,7 +23,7 @@ fn push_front(text: &mut String, form: LineForm, cost: &Cost) -> Result<(), Allo
     }
 }
 
-// Adds what the paths ask a ring for and hold of it.
+// Appends what the paths request from a ring and hold there.
 fn push_ring(
     text: &mut String,
     form: LineForm,
@@ -45,7 +45,7 @@ fn push_ring(
     }
 }
 
-// Adds the size of a ring, or that none is large enough.
+// Appends the size of a ring, or that none is large enough.
 fn push_size(
     text: &mut String,
     form: LineForm,
@@ -62,7 +62,7 @@ fn push_size(
     }
 }
 
-// Adds the size of a ring that is large enough for jobs at once, where that is asked for.
+// Appends the size of a ring that is large enough for concurrent jobs, if that is requested.
 fn push_chosen(
     text: &mut String,
     form: LineForm,
@@ -80,9 +80,12 @@ fn push_chosen(
     push_size(text, form, ring, size)
 }
 
-/// The lines of a cost, in words or as objects of JSON: `accepted`, `steps S calls C`, and for each ring `ring I records R bytes B held H`, where H are the
-/// most bytes that are held. Where jobs are given, behind each ring's line stands `ring I size N`, the smallest ring of more bytes than those jobs ask for
-/// together, or `ring I size none`. `Err` where memory was refused.
+/// Returns the lines of a cost, as text or as JSON objects: `accepted`, `steps S calls C`, and for each ring
+/// `ring I records R bytes B held H`, where H is the maximal number of bytes held.
+///
+/// If `jobs` are given, each ring's line is followed by `ring I size N`, where N is the smallest ring size greater than
+/// the number of bytes that those jobs request together, or by `ring I size none`. Returns `Err` if an allocation
+/// fails.
 pub fn cost_text(
     alloc: Global,
     cost: &Cost,

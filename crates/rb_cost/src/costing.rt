@@ -1,4 +1,4 @@
-//! The cost of a verified program.
+//! Computing the cost of a verified program.
 
 ghost use Rattle.std.specs.Prelude.{◌≡◌, ◌<◌, ◌≤◌, ◌^◌, ℕ, IfOk, length};
 ghost use Rattle.rb_program.specs.Program.{unit_count};
@@ -17,7 +17,8 @@ use rb_program::Program;
 use rb_verifier::{AbsState, Verified};
 use std::alloc::{AllocError, Global};
 
-/// The most bytes of a ring for which a path asks, by the most records: none where no path asks for any, which spares a pass.
+/// Returns the maximal number of bytes of a ring that a path requests, given the maximal number of records. If no path
+/// requests a record, it is 0, which saves a pass.
 fn most_bytes(
     alloc: Global,
     program: &Program,
@@ -37,7 +38,7 @@ fn most_bytes(
     most_on_path(alloc, program, states, Counted::Bytes(ring))
 }
 
-/// What a program asks of one ring.
+/// Returns the cost of a program at one ring.
 fn ring_cost(
     alloc: Global,
     program: &Program,
@@ -61,7 +62,7 @@ fn ring_cost(
     })
 }
 
-/// The cost by the states of an annotation.
+/// Returns the cost by the abstract states of an annotation.
 fn cost_under(
     alloc: Global,
     program: &Program,
@@ -84,12 +85,13 @@ fn cost_under(
     })
 }
 
-/// What a verified program can cost at most: the most instructions and calls of a path, and for each ring the most records and bytes for which the calls
-/// of a path ask and that are held before one instruction. None of the numbers can pass 2^64, since a path has at most 4,096 units and a record at most
-/// 67,108,864 bytes. `Err` where memory was refused.
+/// Returns the maximal cost of a verified program: the most instructions and calls on a path; and for each ring the
+/// most records and bytes that the calls of a path request, and the most that are held before an instruction. No number
+/// can exceed 2^64, because a path has at most 4,096 units and a record at most 67,108,864 bytes. Returns `Err` if an
+/// allocation fails.
 ///
-/// Two passes over the program, and for each ring that it knows two more, or three where it asks for a record of it; a pass takes eight bytes for a unit and
-/// gives them back.
+/// Makes two passes over the program, and for each ring that it uses two more, or three if it requests a record there.
+/// A pass allocates eight bytes for each unit and frees them.
 pub fn cost_of(alloc: Global, verified: &Verified) -> Result<Cost, AllocError>
     ensures { IfOk result (IsCost verified.now) }
 {

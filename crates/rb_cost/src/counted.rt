@@ -1,14 +1,14 @@
-//! What is counted along a path.
+//! The quantities that are counted along a path.
 
-/// What is counted along a path.
+/// A quantity that is counted along a path.
 #[derive(Clone, Copy, Debug, PartialEq, Eq)]
 pub(crate) enum Counted {
     /// The instructions.
     Steps,
-    /// The calls of helpers.
+    /// The helper calls.
     Calls,
-    /// The records for which the calls ask the ring of this number.
+    /// The records that the calls request from the ring with this number.
     Records(u32),
-    /// The bytes that those records take.
+    /// The bytes that those records occupy.
     Bytes(u32),
 }

@@ -1,4 +1,4 @@
-//! What a program holds of a ring.
+//! The records of a ring that a program holds.
 
 ghost use Rattle.std.specs.Prelude.{◌≡◌, ◌*◌, ◌+◌, ◌≤◌, ◌^◌, ℕ, length, count_by, sum_by};
 ghost use Rattle.rb_program.specs.Program.{unit_count};
@@ -11,7 +11,7 @@ use rb_history::span;
 use rb_program::Program;
 use rb_verifier::{AbsState, Reference};
 
-/// How many of the references are to records of a ring.
+/// Returns how many of the references are to records of a ring.
 fn held_records(references: &[Reference], ring: u32) -> u64
     ensures { result ≡ count_by (is_of_ring ring) references.now }
 {
@@ -21,7 +21,7 @@ fn held_records(references: &[Reference], ring: u32) -> u64
         .count() as u64
 }
 
-/// How many bytes of a ring the records of the references take.
+/// Returns how many bytes of a ring the records of the references occupy.
 fn held_bytes(references: &[Reference], ring: u32) -> u64
     requires { length references.now ≤ 4 }
     ensures { result ≡ sum_by (held_span ring) references.now }
@@ -35,16 +35,16 @@ fn held_bytes(references: &[Reference], ring: u32) -> u64
     bytes
 }
 
-/// The most that is held of a ring before one instruction.
+/// The maximum that is held of a ring before an instruction.
 #[derive(Clone, Copy)]
 pub(crate) struct MostHeld {
-    /// How many records.
+    /// The number of records.
     pub(crate) records: u64,
-    /// How many bytes they take.
+    /// The number of bytes that they occupy.
     pub(crate) bytes: u64,
 }
 
-/// The most that is held of a ring before one instruction of the program.
+/// Returns the maximum that is held of a ring before an instruction of the program.
 pub(crate) fn most_held(program: &Program, states: &[AbsState], ring: u32) -> MostHeld
     requires count { length states.now ≡ unit_count program.now }
     requires first { IsInstructionStart program.now 0 }

@@ -1,9 +1,11 @@
-//! What a verified program can cost at most, told before it runs: for hosts that have to say how large a ring must be, and how long a job may take.
-//! A verified program has no loops, each of its calls names a ring and a size that are known, and what it holds is known at each unit.
+//! The maximal cost of a verified program, known before it runs: for hosts that must choose the size of a ring, or
+//! bound the time of a job. A verified program has no loops, each of its calls names a known ring and a known size, and
+//! the records that it holds are known at each unit.
 //!
-//! `cost_of` is, over all paths of the program by its edges, the most units that a path executes, the most calls, and for each ring the most records and
-//! bytes that the calls of a path ask for; and for each ring the most records and bytes that are held before one instruction. Each is exact: one path
-//! reaches it, and none passes it (`specs/Cost.antt`). A path counts also where no run takes it, since a branch may go one way at each run.
+//! `cost_of` computes, over all paths of the program along its edges, the most units that a path executes, the most
+//! calls, and for each ring the most records and bytes that the calls of a path request; and for each ring the most
+//! records and bytes that are held before an instruction. Each bound is exact: one path reaches it, and none exceeds it
+//! (`specs/Cost.antt`). A path counts even if no run takes it, because a branch may always go the same way.
 //!
 //! ```text
 //! let cost = cost_of(alloc, &verified)?;

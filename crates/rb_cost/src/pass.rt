@@ -1,4 +1,4 @@
-//! One pass over a program in unit order, for the most that a path comes to.
+//! A pass over a program in unit order, which computes the maximum over all paths.
 
 ghost use Rattle.std.specs.Prelude.{◌≡◌, ◌+◌, ◌*◌, ◌<◌, ◌≤◌, ◌^◌, ℕ, Some, IfOk, length, vec_len};
 ghost use Rattle.rb_insn.specs.declared.insn.Insn.{Insn};
@@ -17,7 +17,7 @@ use rb_verifier::AbsState;
 use std::alloc::{AllocError, Global};
 
 #[inline(always)]
-/// A number becomes the most so far at the unit to which an edge leads, where there is one and it was less there.
+/// Raises the maximum at the unit to which an edge leads to `n`, if there is such a unit and its maximum was lower.
 fn raise(before: &mut Vec<u64>, target: Option<u32>, n: u64)
     requires { (to : ℕ) → target ≡ Some to → to < vec_len before.old }
     ensures { Raises target n before.old.items before.new.items }
@@ -30,16 +30,17 @@ fn raise(before: &mut Vec<u64>, target: Option<u32>, n: u64)
     }
 }
 
-/// What the pass knows so far.
+/// The state of the pass.
 #[derive(Drop)]
 struct Pass {
-    /// The most of the paths that come to each unit, without that unit.
+    /// For each unit, the maximum over the paths that lead to it, without the unit itself.
     before: Vec<u64>,
-    /// The most of all paths so far.
+    /// The maximum over all paths so far.
     most: u64,
 }
 
-/// One turn of the pass, at an instruction: the most that a path to it comes to, which flows on along its edges.
+/// Visits an instruction: computes the maximum over the paths that end with it, and propagates it along the
+/// instruction's edges.
 fn visit(
     program: &Program,
     states: &[AbsState],
@@ -62,7 +63,8 @@ fn visit(
     pass.most = pass.most.max(total);
 }
 
-/// The most that a path of the program comes to, of what is counted. One pass in unit order, which takes eight bytes for each unit.
+/// Returns the maximum of a counted quantity over the paths of the program. Makes one pass in unit order, which
+/// allocates eight bytes for each unit.
 pub(crate) fn most_on_path(
     alloc: Global,
     program: &Program,

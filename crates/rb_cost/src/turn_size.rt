@@ -1,4 +1,4 @@
-//! How many contexts a worker may run in a turn.
+//! The number of contexts that a worker may run in a turn.
 
 ghost use Rattle.std.specs.Prelude.{◌≡◌, ◌*◌, ◌<◌, ◌^◌, find, nat_lt};
 ghost use Rattle.rb_cost.specs.TurnSize.{LeastRingsHaveTurns, TurnsFit, contexts_at_once, turn_lengths};
@@ -17,11 +17,13 @@ fn longer_turn(size: u128, one_each: u128) -> Option<u16>
         .find(|n| 2 * u128::from(*n) * one_each < size)
 }
 
-/// Returns how many contexts each worker may run in a turn, or `None` if a ring of `size` bytes is too small for one context of every worker.
+/// Returns how many contexts each worker may run in a turn, or `None` if a ring of `size` bytes is too small for one
+/// context of every worker.
 ///
-/// Each context asks the ring for at most `cost` bytes: the sum of `RingCost::bytes` over the programs that run on it. The answer is 16, 8, 4 or 2 if the turns
-/// of all workers leave more than half of the ring, and else 1. A worker that begins a turn only with room for a turn of every worker is then never refused a
-/// record (`rb_admission`). The smallest ring with an answer is `least_ring(workers * cost)`. In constant time.
+/// Each context requests at most `cost` bytes from the ring: the sum of `RingCost::bytes` over the programs that run on
+/// it. The result is 16, 8, 4 or 2 if the turns of all workers leave more than half of the ring, and otherwise 1. A
+/// worker that begins a turn only when there is room for a turn of every worker is then never refused a record
+/// (`rb_admission`). The smallest ring with a result is `least_ring(workers * cost)`. Takes constant time.
 pub fn contexts_at_once(size: u64, workers: u32, cost: u64) -> Option<u32>
     ensures { result ≡ contexts_at_once size workers cost }
 {
@@ -35,7 +37,8 @@ pub fn contexts_at_once(size: u64, workers: u32, cost: u64) -> Option<u32>
     }
 }
 
-/// Turns fit the empty ring, and the smallest ring of more bytes than one context of every worker asks for is the smallest over which turns can be taken.
+/// The law that turns fit the empty ring, and that the smallest ring larger than what one context of every worker
+/// requests is the smallest in which turns are possible. The function does nothing; its contract is the law.
 pub fn turns_fit_their_ring()
     ensures fit { TurnsFit }
     ensures least { LeastRingsHaveTurns }

@@ -1,4 +1,4 @@
--- The text of an object, as it is put together.
+-- The text of an object, from its pieces.
 use Rattle.std.proofs.Common.{◌≡◌, ℕ, ◌++◌, List, [], ◌∷◌, Result, Ok, Err, refl, ap, ◌∙◌, append_assoc}
 use Rattle.std.specs.Prelude.{OnOk, codes}
 use Rattle.std.specs.Fmt.{decimal}

@@ -1,4 +1,5 @@
--- The assembly of each instruction: the syntax of LLVM's disassembler, and for rings map_by_idx of RFC 9669, section 5.4.
+-- The assembly of each instruction: the syntax of LLVM's disassembler, and for rings map_by_idx of RFC 9669, section
+-- 5.4.
 use Rattle.std.specs.Prelude.{ℕ, List, ◌++◌, codes}
 use Rattle.std.specs.Fmt.{signed_decimal}
 use Rattle.std.specs.Int.{w32, w64, cast_signed}

@@ -1,4 +1,4 @@
--- The parts of an instruction's assembly: registers, operands, places in memory, distances, and the symbols between them (the
+-- The parts of an instruction's assembly: registers, operands, addresses, distances, and the symbols between them (the
 -- syntax of LLVM's disassembler).
 use Rattle.std.specs.Prelude.{ℕ, ℤ, pos, negsuc, suc, List, ◌++◌, codes}
 use Rattle.std.specs.Fmt.{decimal, signed_decimal}
@@ -28,24 +28,24 @@ use Rattle.rb_insn.specs.declared.insn.Size.TheVariants as sizes
 use Rattle.rb_insn.specs.declared.insn.SignedSize.{SignedSize}
 use Rattle.rb_insn.specs.declared.insn.SignedSize.TheVariants as signed_sizes
 
--- ---- registers, operands, places, distances
+-- ---- registers, operands, addresses, distances
 
--- `r0` to `r10` where all 64 bits are meant, `w0` to `w10` where the low 32 are
+-- `r0` to `r10` for all 64 bits, `w0` to `w10` for the low 32
 abbrev pub register_text : Width → Reg → List ℕ
 register_text W64 reg = codes "r" ++ decimal reg.number
 register_text W32 reg = codes "w" ++ decimal reg.number
 
--- a register of the instruction's width, or the immediate
+-- a register at the instruction's width, or the immediate
 abbrev pub operand_text : Width → Operand → List ℕ
 operand_text width (Immediate value) = signed_decimal value
 operand_text width (Register src) = register_text width src
 
--- a place in memory: `r1 + 8`, `r10 - 8`
+-- an address in memory: `r1 + 8`, `r10 - 8`
 abbrev pub place_text : Reg → ℤ → List ℕ
 place_text base (pos offset) = register_text W64 base ++ codes " + " ++ decimal offset
 place_text base (negsuc below) = register_text W64 base ++ codes " - " ++ decimal (suc below)
 
--- the bytes of a type at a place: `*(u64 *)(r1 + 8)`
+-- the bytes of a type at an address: `*(u64 *)(r1 + 8)`
 abbrev pub access_text : List ℕ → Reg → ℤ → List ℕ
 access_text type base offset = codes "*(" ++ type ++ codes " *)(" ++ place_text base offset ++ codes ")"
 
@@ -53,7 +53,7 @@ access_text type base offset = codes "*(" ++ type ++ codes " *)(" ++ place_text 
 abbrev pub ring_text : ℕ → List ℕ
 ring_text number = codes "map_by_idx(" ++ decimal number ++ codes ")"
 
--- how far a jump goes: `+4`, `-3`
+-- the distance of a jump: `+4`, `-3`
 abbrev pub distance_text : ℤ → List ℕ
 distance_text (pos distance) = codes "+" ++ decimal distance
 distance_text (negsuc back) = codes "-" ++ decimal (suc back)

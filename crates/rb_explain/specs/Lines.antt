@@ -1,4 +1,5 @@
--- The line of an instruction: its unit, its bytes in hex, its assembly, and where it is a call the name of the helper (bpf-helpers(7)).
+-- The line of an instruction: its unit, its bytes in hex, its assembly and, if it is a call, the name of the helper
+-- (bpf-helpers(7)).
 use Rattle.std.specs.Prelude.{ℕ, ◌^◌, ◌-◌, List, ◌++◌, codes, Option, Some, None}
 use Rattle.std.specs.Fmt.{format_spec, styled_decimal, styled_text}
 use Rattle.hex.specs.Hex.{encode_lower}
@@ -21,16 +22,16 @@ abbrev pub helper_text : Option Helper → List ℕ
 helper_text None = codes "  # not a helper of this host"
 helper_text (Some helper) = codes "  # " ++ helper_name helper
 
--- behind a call its helper, behind any other instruction nothing
+-- the name of the helper after a call, and nothing after any other instruction
 abbrev pub call_text : Insn → List ℕ
 call_text (Call helper) = helper_text (helper_of helper)
 call_text insn = codes ""
 
--- a unit, at the right of four columns
+-- a unit, right-aligned in four columns
 abbrev pub unit_text : ℕ → List ℕ
 unit_text unit = styled_decimal (format_spec 32 3 0 4 (2 ^ 64 - 1)) unit
 
--- bytes in hex, at the left of 32 columns
+-- bytes in hex, left-aligned in 32 columns
 abbrev pub bytes_column : List ℕ → List ℕ
 bytes_column bytes = styled_text (format_spec 32 1 0 32 (2 ^ 64 - 1)) (encode_lower bytes)
 

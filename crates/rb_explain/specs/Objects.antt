@@ -1,4 +1,5 @@
--- The explanation as objects of JSON, one a line. Its numbers are units, registers and lengths below 2^32, and its strings have no byte that JSON escapes.
+-- The explanation as JSON objects, one a line. Its numbers are units, registers and lengths below 2^32, and its strings
+-- have no byte that JSON escapes.
 use Rattle.std.specs.Prelude.{ℕ, ◌==◌, ◌+◌, ◌-◌, ◌*◌, Bool, true, false, List, [], ◌++◌, codes, Option, Some, None, if◌then◌else◌}
 use Rattle.std.specs.Fmt.{decimal}
 use Rattle.std.specs.List.{flat_map}
@@ -27,7 +28,8 @@ use Rattle.rb_explain.specs.StateTexts.{value_text, kept_text, is_readable}
 
 -- ---- a unit
 
--- a call has the name of its helper, and null where this host has none of its number; other instructions have no such field
+-- a call has the name of its helper, or null if this host has no helper with its number; other instructions have no
+-- such field
 abbrev pub named_helper : Option Helper → List ℕ
 named_helper None = codes "null"
 named_helper (Some helper) = quoted (helper_name helper)
@@ -44,16 +46,16 @@ insn_fields unit insn =
 abbrev pub unit_object : ℕ → Insn → List ℕ
 unit_object unit insn = insn_fields unit insn ++ codes "}\n"
 
--- a unit that is no instruction
+-- a unit that is not an instruction
 abbrev pub bytes_object : ℕ → List ℕ → List ℕ
 bytes_object unit bytes = codes "{\"unit\":" ++ decimal unit ++ codes ",\"bytes\":" ++ quoted (encode_lower bytes) ++ codes "}\n"
 
--- ---- what is known before an instruction
+-- ---- the abstract state before an instruction
 
 abbrev pub comma_before : ℕ → List ℕ
 comma_before n = if n == 0 then codes "" else codes ","
 
--- what a register holds, and null where it may not be read
+-- the value of a register, or null if it must not be read
 abbrev pub held_value : List Reference → Abs → List ℕ
 held_value held value = if is_readable value then quoted (value_text held value) else codes "null"
 
@@ -64,7 +66,7 @@ register_field state register = comma_before register ++ codes "\"r" ++ decimal 
 unfoldable pub register_fields : AbsState → List ℕ
 register_fields state = joined_below (register_field state) 11
 
--- a place of the stack with what it keeps, by how many places lie behind it: none for one that has data
+-- the content of a place of the stack, by the number of places after it; no field for a place with data
 abbrev pub kept_field : List Reference → ℕ → Abs → List ℕ
 kept_field held behind value = if is_data value then codes "" else codes ",\"fp-" ++ decimal (8 * behind + 8) ++ codes "\":" ++ quoted (kept_text held value)
 
@@ -79,12 +81,12 @@ abbrev pub truth : Bool → List ℕ
 truth true = codes "true"
 truth false = codes "false"
 
--- a record that has to be given back, and whether it was tested against null
+-- a record that must be submitted or discarded, and whether it was tested against null
 abbrev pub record_field : Reference → List ℕ
 record_field reference =
     codes ",\"record " ++ decimal reference.id ++ codes "\":{\"bytes\":" ++ decimal reference.size ++ codes ",\"ring\":" ++ decimal reference.ring ++ codes ",\"tested\":" ++ truth reference.sure ++ codes "}"
 
--- each register, each place of the stack that may keep a pointer, and each record that has to be given back
+-- each register, each place of the stack that may hold a pointer, and each record that must be submitted or discarded
 abbrev pub known_fields : AbsState → List ℕ
 known_fields state = codes ",\"known\":{" ++ register_fields state ++ place_fields state ++ flat_map record_field state.held ++ codes "}}\n"
 
@@ -115,7 +117,7 @@ shape_name shape_faults.Memory = codes "Memory"
 abbrev pub rule_name : Rule → List ℕ
 rule_name rule = codes "V" ++ decimal (rule_number rule)
 
--- the layer that refuses the program, which fault that is, its unit, and how programs mend it
+-- the layer that refuses the program, the name of the fault, its unit, and how to fix the program
 abbrev pub fault_object : (layer name : List ℕ) → ℕ → List ℕ → List ℕ
 fault_object layer name unit advice =
     codes "{\"layer\":\"" ++ layer ++ codes "\",\"fault\":\"" ++ name ++ codes "\",\"unit\":" ++ decimal unit ++ codes ",\"advice\":\"" ++ advice ++ codes "\"}\n"

@@ -1,5 +1,6 @@
--- The line of what is known before an instruction: each register that may be read, in order, with what it holds, and each record that has to be given
--- back. Each place of the stack that may keep a pointer stands behind the registers. Records are named by the unit of the CALL that reserved them.
+-- The line with the abstract state before an instruction: each register that may be read, in order, with its value;
+-- then each place of the stack that may hold a pointer; and each record that must be submitted or discarded. Records
+-- are named by the unit of the CALL that reserved them.
 use Rattle.std.specs.Prelude.{ℕ, ℤ, ◌^◌, ◌+◌, ◌-◌, ◌*◌, Bool, true, false, List, ◌++◌, codes, find, Option, Some, None, if◌then◌else◌}
 use Rattle.std.specs.Fmt.{format_spec, decimal, signed_decimal, styled_signed_decimal}
 use Rattle.std.specs.Int.{w64, cast_signed}
@@ -17,12 +18,12 @@ use Rattle.rb_explain.specs.Joined.{joined_below}
 abbrev pub offset_text : ℤ → List ℕ
 offset_text offset = styled_signed_decimal (format_spec 32 0 1 0 (2 ^ 64 - 1)) offset
 
--- how long a record is that is held
+-- the length of a record that is held
 abbrev pub size_text : Option Reference → List ℕ
 size_text None = codes ""
 size_text (Some reference) = codes " of " ++ decimal reference.size ++ codes " bytes"
 
--- what a register holds
+-- the value of a register
 abbrev pub value_text : List Reference → Abs → List ℕ
 value_text held Unreadable = codes "nothing"
 value_text held Number = codes "number"
@@ -37,7 +38,7 @@ abbrev pub is_readable : Abs → Bool
 is_readable Unreadable = false
 is_readable value = true
 
--- a register with what it holds: nothing for one that may not be read
+-- a register with its value; nothing for one that must not be read
 abbrev pub held_register_text : List Reference → ℕ → Abs → List ℕ
 held_register_text held register value = if is_readable value then codes "  r" ++ decimal register ++ codes " = " ++ value_text held value else codes ""
 
@@ -48,12 +49,13 @@ register_in state register = held_register_text state.held register (value_in st
 unfoldable pub registers_text : AbsState → List ℕ
 registers_text state = joined_below (register_in state) 11
 
--- what a place of the stack keeps: data or a pointer, where it may have either
+-- the content of a place of the stack: data, a pointer, or `mixed` if it may have either
 abbrev pub kept_text : List Reference → Abs → List ℕ
 kept_text held Unreadable = codes "mixed"
 kept_text held value = value_text held value
 
--- a place with what it keeps, by how many places lie behind it, so that the last one begins at fp-8: nothing for one that has data
+-- a place with its content, by the number of places after it, so that the last one begins at fp-8; nothing for one with
+-- data
 abbrev pub kept_place_text : List Reference → ℕ → Abs → List ℕ
 kept_place_text held behind value = if is_data value then codes "" else codes "  fp-" ++ decimal (8 * behind + 8) ++ codes " = " ++ kept_text held value
 
@@ -68,7 +70,7 @@ abbrev pub tested_text : Bool → List ℕ
 tested_text true = codes ""
 tested_text false = codes ", or null"
 
--- a record that has to be given back
+-- a record that must be submitted or discarded
 abbrev pub reference_text : Reference → List ℕ
 reference_text reference =
     codes "  holds record " ++ decimal reference.id ++ codes " of " ++ decimal reference.size ++ codes " bytes in ring " ++ decimal reference.ring ++ tested_text reference.sure

@@ -1,11 +1,11 @@
-//! What each fault and each rule wants, and how programs mend it.
+//! The advice for each fault and each rule: what is required, and how to fix the program.
 
 ghost use Rattle.rb_explain.specs.Explanations.{IsPlainText};
 
 use rb_program::{DecodeKind, ShapeFaultKind};
 use rb_verifier::Rule;
 
-/// What a fault of bytes says, behind its name, and how programs mend it: a line without its end.
+/// Returns the advice for a decode fault: what is wrong and how to fix the program, as a line without a line feed.
 pub(crate) fn decode_advice(kind: DecodeKind) -> &'static str
     ensures plain { IsPlainText result.now }
 {
@@ -35,7 +35,7 @@ pub(crate) fn decode_advice(kind: DecodeKind) -> &'static str
     }
 }
 
-/// What a fault of a program's shape says, behind its name, and how programs mend it: a line without its end.
+/// Returns the advice for a shape fault: what is wrong and how to fix the program, as a line without a line feed.
 pub(crate) fn shape_advice(kind: ShapeFaultKind) -> &'static str
     ensures plain { IsPlainText result.now }
 {
@@ -59,7 +59,8 @@ pub(crate) fn shape_advice(kind: ShapeFaultKind) -> &'static str
     }
 }
 
-/// What a rule of verification wants, and how programs mend it: a line without its end.
+/// Returns the advice for a rule of verification: what it requires and how to fix the program, as a line without a line
+/// feed.
 pub(crate) fn rule_advice(rule: Rule) -> &'static str
     ensures plain { IsPlainText result.now }
 {

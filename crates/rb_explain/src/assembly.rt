@@ -7,10 +7,12 @@ use crate::forms::{write_jump, write_load, write_move, write_operation, write_st
 use rb_insn::Insn;
 use std::fmt;
 
-/// An instruction, displayed as its assembly: `r1 += 8`, `*(u64 *)(r0 + 0) = r1`, `if w2 == 0 goto +4`, `r1 = map_by_idx(0)`.
+/// An instruction that displays as its assembly.
 ///
-/// Numbers are decimal. The numbers of a helper and of a wide load are signed, and a load or a store names the whole register, as LLVM
-/// prints them where 32-bit registers are not asked for.
+/// Examples are `r1 += 8`, `*(u64 *)(r0 + 0) = r1`, `if w2 == 0 goto +4` and `r1 = map_by_idx(0)`.
+///
+/// Numbers are decimal. The numbers of a helper and of a wide load are signed, and a load or a store names the whole
+/// register, as LLVM prints them by default, without 32-bit registers.
 #[derive(Clone, Copy)]
 pub struct Assembly(pub Insn);
 

@@ -1,4 +1,4 @@
-//! The explanation of a program's text.
+//! Explains a program, from its text or its bytes.
 
 ghost use Rattle.std.specs.Prelude.{◌≡◌, ◌≢◌, ◌<◌, ◌≤◌, ◌⊎◌, List, None, Some, IfErr, IfOk, MatchOption, string_bytes};
 ghost use Rattle.rb_insn.specs.declared.insn.Insn.{Insn};
@@ -19,12 +19,16 @@ use rb_program::{
 use rb_verifier::{Refusal, Rule, verify};
 use std::alloc::{AllocError, Global};
 
-/// Explains the program of a text in hex, with ASCII white space anywhere, for a context of so many bytes and so many rings. The text answered is, of
-/// an accepted program, each instruction with what the verifier knows before it, and then what the program can cost at most, as `rb_cost::cost_text` has it;
-/// of a refused one, the units around its first fault with a mark under the fault's own, and what is wrong and how programs mend it; or the same as objects
-/// of JSON, one a line. A refusal is the first fault of the first layer that has one. An error is out of memory, and says nothing of the program.
+/// Explains the program of a hex text, with ASCII white space anywhere, for a context of `ctx_len` bytes and for
+/// `rings` rings.
 ///
-/// The time is linear in the length of the text for each ring, the memory in the length of the text.
+/// For an accepted program, the returned text has each instruction with the abstract state before it, followed by the
+/// most that the program can cost, as printed by `rb_cost::cost_text`. For a refused one, it has the units around its
+/// first fault with a mark under the faulty one, what is wrong, and how to fix the program. The JSON form has the same
+/// as objects, one a line. A refusal is the first fault of the first layer that has one. The only error is a failed
+/// allocation, which says nothing about the program.
+///
+/// The time is linear in the length of the text for each ring, and the memory is linear in the length of the text.
 pub fn explain(
     alloc: Global,
     text: &str,
@@ -42,7 +46,7 @@ pub fn explain(
     }
 }
 
-// The bytes of a text in hex; none where it is no hex.
+// Returns the bytes of a hex text, or `None` if it is not hex.
 fn bytes_of(alloc: Global, text: &str) -> Result<Option<Vec<u8>>, AllocError>
     ensures hex { IfOk result (λ found. MatchOption found (IsNoHex text.now) (λ bytes. IsHexOf (without_white_space text.now) bytes.items)) }
 {
@@ -54,7 +58,7 @@ fn bytes_of(alloc: Global, text: &str) -> Result<Option<Vec<u8>>, AllocError>
     }
 }
 
-// The bytes of digits, or that they are no hex, or out of memory.
+// Returns the bytes that hex digits encode. An error is `NotHex` or a failed allocation.
 fn decode_hex(alloc: Global, digits: &[u8]) -> Result<Vec<u8>, TextFault>
     ensures hex { IfOk result (λ bytes. IsHexOf digits.now bytes.items) }
     ensures fault { IfErr result (IsTextFault digits.now) }
@@ -63,7 +67,7 @@ fn decode_hex(alloc: Global, digits: &[u8]) -> Result<Vec<u8>, TextFault>
     Ok(bytes)
 }
 
-// The bytes of a text that are no white space.
+// Returns the bytes of a text without its white space.
 fn digits_of(alloc: Global, text: &[u8]) -> Result<Vec<u8>, AllocError>
     ensures { IfOk result (λ digits. digits.items ≡ without_white_space text.now) }
 {
@@ -73,7 +77,7 @@ fn digits_of(alloc: Global, text: &[u8]) -> Result<Vec<u8>, AllocError>
         .collect(alloc)
 }
 
-// What is told of a text that is no hex.
+// Returns the message for a text that is not hex.
 fn no_hex_line(form: LineForm) -> &'static str
     ensures { result.now ≡ no_hex_text form }
 {
@@ -97,7 +101,7 @@ fn no_hex(alloc: Global, form: LineForm) -> Result<Explanation, AllocError>
     })
 }
 
-/// The same of the program that bytes spell, eight a unit.
+/// Explains the program that these bytes encode, eight for each unit, like `explain`.
 pub fn explain_bytes(
     alloc: Global,
     bytes: &[u8],
@@ -121,7 +125,7 @@ pub fn explain_bytes(
     }
 }
 
-// What is shown of bytes that are no program.
+// Returns the units to show for bytes that are not a program.
 fn front_of(
     alloc: Global,
     form: LineForm,
@@ -139,7 +143,7 @@ fn front_of(
     }
 }
 
-// The explanation of bytes that are no program.
+// Explains bytes that are not a program.
 fn explain_decode(
     alloc: Global,
     form: LineForm,
@@ -161,7 +165,7 @@ fn explain_decode(
     })
 }
 
-// The explanation of a program whose shape has a fault.
+// Explains a program that is not well shaped.
 fn explain_shape(
     alloc: Global,
     form: LineForm,
@@ -189,7 +193,7 @@ fn explain_shape(
     })
 }
 
-// The explanation of a program without a fault of shape.
+// Explains a well-shaped program.
 fn explain_shaped(
     alloc: Global,
     form: LineForm,
@@ -214,7 +218,7 @@ fn explain_shaped(
     }
 }
 
-// The explanation of a program that breaks a rule.
+// Explains a program that breaks a rule.
 fn explain_rule(
     alloc: Global,
     form: LineForm,

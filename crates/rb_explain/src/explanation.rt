@@ -1,4 +1,4 @@
-//! What an explanation is.
+//! The explanation of a program.
 
 use rb_program::{DecodeFault, ShapeFault};
 use rb_verifier::Rule as BrokenRule;
@@ -8,7 +8,7 @@ use rb_verifier::Rule as BrokenRule;
 pub enum Reason {
     /// The text, without its white space, is not pairs of hex digits.
     Text,
-    /// The bytes are no program.
+    /// The bytes are not a program.
     Decode(DecodeFault),
     /// The program is not well shaped.
     Shape(ShapeFault),
@@ -24,8 +24,8 @@ pub enum Reason {
 /// The explanation of a program.
 #[derive(Drop)]
 pub struct Explanation {
-    /// The text, in whole lines.
+    /// The text, in complete lines.
     pub text: String,
-    /// Why the program is refused; none where it is accepted.
+    /// Why the program is refused, or `None` if it is accepted.
     pub reason: Option<Reason>,
 }

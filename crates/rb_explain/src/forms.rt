@@ -1,4 +1,4 @@
-//! How the assembly of each form of instruction is written.
+//! Writes the assembly of each form of instruction.
 
 ghost use Rattle.std.specs.Prelude.{◌≡◌, ◌++◌, codes};
 ghost use Rattle.std.specs.Fmt.{WritesOnOk};
@@ -14,7 +14,7 @@ use crate::symbols::{
 use rb_insn::{Insn, Operand, Reg, Width};
 use std::fmt;
 
-/// An operation on one register: `r1 += 8`, `w1 s/= w2`, `r1 = -r1`.
+/// Writes an operation on one register: `r1 += 8`, `w1 s/= w2`, `r1 = -r1`.
 pub(crate) fn write_operation<W: fmt::Write>(insn: Insn, f: &mut fmt::Formatter<W>) -> fmt::Result
     requires { IsOperation insn }
     ensures writes { WritesOnOk W.write_str_gives f.old result (assembly_of insn) f.new }
@@ -51,7 +51,7 @@ pub(crate) fn write_operation<W: fmt::Write>(insn: Insn, f: &mut fmt::Formatter<
     }
 }
 
-// A register, an operator that assigns, and the second operand.
+// Writes a register, an assignment operator, and the second operand.
 fn write_update<W: fmt::Write>(
     dst: Register,
     symbol: &'static str,
@@ -64,7 +64,7 @@ fn write_update<W: fmt::Write>(
     write!(f, "{dst} {symbol} {source}")
 }
 
-/// What a register becomes of another, an immediate, or its own bytes in an order: `r1 = r2`, `r1 = (s8)r2`, `r1 = be16 r1`.
+/// Writes a move of a register or an immediate, or a reordering of bytes: `r1 = r2`, `r1 = (s8)r2`, `r1 = be16 r1`.
 pub(crate) fn write_move<W: fmt::Write>(insn: Insn, f: &mut fmt::Formatter<W>) -> fmt::Result
     requires { IsMove insn }
     ensures writes { WritesOnOk W.write_str_gives f.old result (assembly_of insn) f.new }
@@ -103,7 +103,7 @@ pub(crate) fn write_move<W: fmt::Write>(insn: Insn, f: &mut fmt::Formatter<W>) -
     }
 }
 
-/// A load, of a number, a ring or bytes: `r1 = 5 ll`, `r1 = map_by_idx(0)`, `r1 = *(u64 *)(r6 + 8)`.
+/// Writes a load of a number, a ring or bytes: `r1 = 5 ll`, `r1 = map_by_idx(0)`, `r1 = *(u64 *)(r6 + 8)`.
 pub(crate) fn write_load<W: fmt::Write>(insn: Insn, f: &mut fmt::Formatter<W>) -> fmt::Result
     requires { IsLoad insn }
     ensures writes { WritesOnOk W.write_str_gives f.old result (assembly_of insn) f.new }
@@ -139,7 +139,7 @@ pub(crate) fn write_load<W: fmt::Write>(insn: Insn, f: &mut fmt::Formatter<W>) -
     }
 }
 
-/// A store: `*(u64 *)(r10 - 8) = r1`, `*(u8 *)(r0 + 0) = 42`.
+/// Writes a store: `*(u64 *)(r10 - 8) = r1`, `*(u8 *)(r0 + 0) = 42`.
 pub(crate) fn write_store<W: fmt::Write>(insn: Insn, f: &mut fmt::Formatter<W>) -> fmt::Result
     requires { IsStore insn }
     ensures writes { WritesOnOk W.write_str_gives f.old result (assembly_of insn) f.new }
@@ -166,7 +166,7 @@ pub(crate) fn write_store<W: fmt::Write>(insn: Insn, f: &mut fmt::Formatter<W>) 
     }
 }
 
-/// A jump: `goto +4`, `gotol -3`, `if w2 == 0 goto +4`.
+/// Writes a jump: `goto +4`, `gotol -3`, `if w2 == 0 goto +4`.
 pub(crate) fn write_jump<W: fmt::Write>(insn: Insn, f: &mut fmt::Formatter<W>) -> fmt::Result
     requires { IsJumpForm insn }
     ensures writes { WritesOnOk W.write_str_gives f.old result (assembly_of insn) f.new }
@@ -214,7 +214,7 @@ fn access(type_name: &'static str, base: Reg, offset: i16) -> Access
     }
 }
 
-// All 64 bits of a register.
+// Returns a register at its full width.
 fn whole(reg: Reg) -> Register
     ensures { result ≡ record { width = Width.W64; reg = reg } }
 {

@@ -1,9 +1,12 @@
-//! Explanations of programs, for people who write them. `explain` takes a program's text in hex and answers what the verifier knows before each
-//! instruction of an accepted program and what the program can cost at most, and for a refused one the units around its first fault, the rule, what the
-//! rule wants, and how programs mend it. Instructions stand in the syntax of LLVM's disassembler, with the names of bpf-helpers(7).
+//! Explanations of programs, for the people who write them.
 //!
-//! `Assembly(insn)` displays one instruction so, and a ring as RFC 9669 names it (section 5.4: `map_by_idx`). What is displayed is proved to be the
-//! text of `specs/Assembly.antt`.
+//! `explain` takes a program as hex text. For an accepted program, it returns what the verifier knows before each
+//! instruction, and the most that the program can cost. For a refused one, it returns the units around its first fault,
+//! the rule, what the rule requires, and how to fix the program. Instructions are in the syntax of LLVM's disassembler,
+//! with the names of bpf-helpers(7).
+//!
+//! `Assembly(insn)` displays one instruction in that syntax, with a ring as in RFC 9669 (section 5.4: `map_by_idx`).
+//! The displayed text is proved to be that of `specs/Assembly.antt`.
 //!
 //! ```text
 //! let explanation = explain(alloc, "b700000000000000 9500000000000000", 16, 1)?;

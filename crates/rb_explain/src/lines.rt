@@ -10,7 +10,7 @@ use std::alloc::{AllocError, Global};
 use std::fmt;
 use std::fmt::Write;
 
-/// The name of a helper (bpf-helpers(7)).
+/// Returns the name of a helper (bpf-helpers(7)).
 pub(crate) fn helper_name(helper: Helper) -> &'static str
     ensures { result.now ≡ lines.helper_name helper }
 {
@@ -23,7 +23,7 @@ pub(crate) fn helper_name(helper: Helper) -> &'static str
     }
 }
 
-// What stands behind a call: the helper's name.
+// The note after a call: the helper's name.
 #[derive(Clone, Copy)]
 struct CallNote(Insn);
 
@@ -41,7 +41,7 @@ impl fmt::Display for CallNote {
     }
 }
 
-/// The instruction at a unit: its unit, its bytes, its assembly, and the helper that it calls.
+/// Appends the line of the instruction at a unit: its unit, its bytes, its assembly, and the helper if it is a call.
 pub(crate) fn push_line(
     alloc: Global,
     text: &mut String,
@@ -57,7 +57,7 @@ pub(crate) fn push_line(
     write!(text, "{unit:>4}: {bytes:<32}  {assembly}{call}\n")
 }
 
-/// The bytes of a unit.
+/// Appends the line of a unit's bytes.
 pub(crate) fn push_bytes(
     alloc: Global,
     text: &mut String,

@@ -1,4 +1,4 @@
-//! The listing of an accepted program, and what the program can cost at most.
+//! The listing of an accepted program, and the most that it can cost.
 
 ghost use Rattle.std.specs.Prelude.{◌≡◌, ◌<◌, ◌++◌, IfOk, OnOk, length, string_bytes};
 ghost use Rattle.rb_program.specs.Program.{unit_count};
@@ -16,7 +16,7 @@ use rb_program::Program;
 use rb_verifier::{AbsState, Verified};
 use std::alloc::{AllocError, Global};
 
-// An instruction with what is known there.
+// Appends an instruction with the state before it.
 fn push_known(
     alloc: Global,
     text: &mut String,
@@ -36,7 +36,7 @@ fn push_known(
     }
 }
 
-// The instruction at a unit, where one begins, with what is known there.
+// Appends the instruction that begins at a unit, if one does, with the state before it.
 fn push_known_at(
     alloc: Global,
     text: &mut String,
@@ -54,7 +54,7 @@ fn push_known_at(
     }
 }
 
-// Each instruction with what is known there.
+// Returns each instruction with the state before it.
 #[tactic(auto, using(crate::proofs::Joining::joins))]
 fn listing_of(
     alloc: Global,
@@ -72,14 +72,14 @@ fn listing_of(
     Ok(text)
 }
 
-// The listing of a verified program, by the annotation that verified it.
+// Returns the listing of a verified program, by the annotation from its verification.
 fn listing_text(alloc: Global, form: LineForm, verified: &Verified) -> Result<String, AllocError>
     ensures listed { IfOk result (λ text. IsListing form (limits_of verified.now) verified.now.program (string_bytes text)) }
 {
     listing_of(alloc, form, verified.program(), verified.states())
 }
 
-/// The listing of a verified program, and behind it the lines of its cost.
+/// Returns the listing of a verified program, followed by the lines of its cost.
 pub(crate) fn listing_with_cost(
     alloc: Global,
     form: LineForm,

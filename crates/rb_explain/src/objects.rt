@@ -1,4 +1,4 @@
-//! What is explained, as objects of JSON, one a line: units with what is known before them, and faults.
+//! Explanations as JSON objects, one a line: units with the states before them, and faults.
 
 ghost use Rattle.std.specs.Prelude.{◌≡◌, ◌<◌, ◌++◌, Some, OnOk, string_bytes};
 ghost use Rattle.std.specs.List.{flat_map};
@@ -14,7 +14,7 @@ use std::alloc::{AllocError, Global};
 use std::fmt;
 use std::fmt::Write;
 
-// The field of a call's helper, with the comma before it.
+// The field of a call's helper, after a comma.
 #[derive(Clone, Copy)]
 struct HelperField(Insn);
 
@@ -32,7 +32,7 @@ impl fmt::Display for HelperField {
     }
 }
 
-// The fields of an instruction at a unit.
+// Appends the fields of an instruction at a unit.
 fn push_insn_fields(
     alloc: Global,
     text: &mut String,
@@ -51,7 +51,7 @@ fn push_insn_fields(
     )
 }
 
-/// The object of the instruction at a unit: `unit`, `bytes`, `assembly` and, of a call, `helper`.
+/// Appends the object of the instruction at a unit: `unit`, `bytes`, `assembly` and, for a call, `helper`.
 pub(crate) fn push_unit_object(
     alloc: Global,
     text: &mut String,
@@ -64,7 +64,7 @@ pub(crate) fn push_unit_object(
     text.push_str("}\n")
 }
 
-/// The same with `known`, what is known before it.
+/// Appends the same object with `known`, the state before the instruction.
 pub(crate) fn push_known_object(
     alloc: Global,
     text: &mut String,
@@ -78,7 +78,7 @@ pub(crate) fn push_known_object(
     push_known(text, state)
 }
 
-/// The object of a unit that is no instruction: `unit` and `bytes`.
+/// Appends the object of a unit that is not an instruction: `unit` and `bytes`.
 pub(crate) fn push_bytes_object(
     alloc: Global,
     text: &mut String,
@@ -91,7 +91,7 @@ pub(crate) fn push_bytes_object(
     write!(text, "{{\"unit\":{unit},\"bytes\":\"{bytes}\"}}\n")
 }
 
-/// The object of a fault: `layer`, `fault`, `unit` and `advice`.
+/// Appends the object of a fault: `layer`, `fault`, `unit` and `advice`.
 pub(crate) fn push_fault_object(
     text: &mut String,
     layer: &str,
@@ -107,7 +107,7 @@ pub(crate) fn push_fault_object(
     )
 }
 
-// What a register holds; null where it may not be read.
+// The value of a register, or null if it must not be read.
 #[derive(Clone, Copy)]
 struct HeldValue<'a> {
     held: &'a Held,
@@ -133,7 +133,7 @@ fn comma_before(number: usize) -> &'static str
     if number == 0 { "" } else { "," }
 }
 
-// A register with what it holds.
+// Appends the field of a register.
 fn push_register(text: &mut String, state: &AbsState, register: usize) -> Result<(), AllocError>
     requires { register < 11 }
     ensures added { OnOk result (string_bytes text.new ≡ string_bytes text.old ++ register_field state.now register) }
@@ -146,7 +146,7 @@ fn push_register(text: &mut String, state: &AbsState, register: usize) -> Result
     write!(text, "{comma}\"r{register}\":{shown}")
 }
 
-// All registers.
+// Appends the fields of all registers.
 #[tactic(auto, using(crate::proofs::Joining::joins), unfolding(crate::specs::Objects::register_fields))]
 fn push_registers(text: &mut String, state: &AbsState) -> Result<(), AllocError>
     ensures added { OnOk result (string_bytes text.new ≡ string_bytes text.old ++ register_fields state.now) }
@@ -157,7 +157,8 @@ fn push_registers(text: &mut String, state: &AbsState) -> Result<(), AllocError>
     Ok(())
 }
 
-// A place of the stack with what it keeps, where it may keep a pointer.
+// Appends the field of a place of the stack (an aligned 8-byte slot), if it may hold a pointer. `behind` counts the
+// places after it.
 fn push_place(text: &mut String, state: &AbsState, behind: u64) -> Result<(), AllocError>
     requires { behind < 64 }
     ensures added { OnOk result (string_bytes text.new ≡ string_bytes text.old ++ place_field state.now behind) }
@@ -176,7 +177,7 @@ fn push_place(text: &mut String, state: &AbsState, behind: u64) -> Result<(), Al
     }
 }
 
-// All places of the stack that may keep a pointer.
+// Appends the fields of all places of the stack that may hold a pointer.
 #[tactic(auto, using(crate::proofs::Joining::joins), unfolding(crate::specs::Objects::place_fields))]
 fn push_places(text: &mut String, state: &AbsState) -> Result<(), AllocError>
     ensures added { OnOk result (string_bytes text.new ≡ string_bytes text.old ++ place_fields state.now) }
@@ -193,7 +194,7 @@ fn truth(holds: bool) -> &'static str
     if holds { "true" } else { "false" }
 }
 
-// The field of a record that has to be given back, with the comma before it.
+// The field of a record that must be submitted or discarded, after a comma.
 #[derive(Clone, Copy)]
 struct RecordField(Reference);
 
@@ -221,7 +222,7 @@ fn push_record(text: &mut String, reference: &Reference) -> Result<(), AllocErro
     write!(text, "{}", RecordField(*reference))
 }
 
-// All records that have to be given back.
+// Appends the fields of all records that must be submitted or discarded.
 #[tactic(auto, using(crate::proofs::Joining::joins_item))]
 fn push_records(text: &mut String, held: &[Reference]) -> Result<(), AllocError>
     ensures added { OnOk result (string_bytes text.new ≡ string_bytes text.old ++ flat_map record_field held.now) }
@@ -232,7 +233,7 @@ fn push_records(text: &mut String, held: &[Reference]) -> Result<(), AllocError>
     Ok(())
 }
 
-// What is known before an instruction, and the end of its object.
+// Appends the state before an instruction, and the end of its object.
 #[tactic(auto, using(crate::proofs::Joining::five))]
 fn push_known(text: &mut String, state: &AbsState) -> Result<(), AllocError>
     ensures added { OnOk result (string_bytes text.new ≡ string_bytes text.old ++ known_fields state.now) }

@@ -1,4 +1,4 @@
-//! Registers, operands, places in memory and distances, as they stand in assembly.
+//! The parts of assembly: registers, operands, addresses and distances.
 
 ghost use Rattle.std.specs.Prelude.{Some};
 ghost use Rattle.rb_explain.specs.AssemblyParts.{register_text, operand_text, place_text, access_text, ring_text, distance_text};
@@ -49,7 +49,7 @@ impl fmt::Display for SecondOperand {
     }
 }
 
-/// A place in memory: `r1 + 8`, `r10 - 8`.
+/// An address in memory: `r1 + 8`, `r10 - 8`.
 #[derive(Clone, Copy)]
 pub(crate) struct Place {
     pub(crate) base: Reg,
@@ -73,7 +73,7 @@ impl fmt::Display for Place {
     }
 }
 
-/// The bytes of a type at a place: `*(u64 *)(r1 + 8)`.
+/// The bytes of a type at an address: `*(u64 *)(r1 + 8)`.
 #[derive(Clone, Copy)]
 pub(crate) struct Access {
     pub(crate) type_name: &'static str,
@@ -103,7 +103,7 @@ impl fmt::Display for Ring {
     }
 }
 
-/// How far a jump goes: `+4`, `-3`.
+/// The distance of a jump: `+4`, `-3`.
 #[derive(Clone, Copy)]
 pub(crate) struct Distance(pub(crate) i32);
 

@@ -1,4 +1,4 @@
-//! What is said of a fault.
+//! The messages for faults.
 
 ghost use Rattle.std.specs.Prelude.{◌≡◌, ◌++◌, [], IfOk, OnOk, codes, string_bytes};
 ghost use Rattle.rb_explain.specs.Explanations.{IsPlainText, number_text, said_text};
@@ -11,7 +11,7 @@ use rb_verifier::Rule;
 use std::alloc::{AllocError, Global};
 use std::fmt::Write;
 
-/// The name of a fault of bytes.
+/// Returns the name of a decode fault.
 pub(crate) fn decode_name(kind: DecodeKind) -> &'static str
     ensures name { result.now ≡ objects.decode_name kind }
     ensures plain { IsPlainText result.now }
@@ -28,7 +28,7 @@ pub(crate) fn decode_name(kind: DecodeKind) -> &'static str
     }
 }
 
-/// The name of a fault of a shape.
+/// Returns the name of a shape fault.
 pub(crate) fn shape_name(kind: ShapeFaultKind) -> &'static str
     ensures name { result.now ≡ objects.shape_name kind }
     ensures plain { IsPlainText result.now }
@@ -43,7 +43,7 @@ pub(crate) fn shape_name(kind: ShapeFaultKind) -> &'static str
     }
 }
 
-// Adds a line and its end.
+// Appends a line and a line feed.
 fn push_whole_line(text: &mut String, line: &str) -> Result<(), AllocError>
     ensures added { OnOk result (string_bytes text.new ≡ string_bytes text.old ++ line.now ++ codes "\n") }
 {
@@ -51,14 +51,14 @@ fn push_whole_line(text: &mut String, line: &str) -> Result<(), AllocError>
     text.push_str("\n")
 }
 
-// A name, a colon and an advice.
+// Returns a name, a colon and an advice.
 fn joined(alloc: Global, name: &str, advice: &str) -> Result<String, AllocError>
     ensures { IfOk result (λ text. string_bytes text ≡ name.now ++ codes ": " ++ advice.now) }
 {
     format!(in alloc; "{name}: {advice}")
 }
 
-/// Returns what is said of a fault with a name, after its name: `BadOpcode: `.
+/// Returns the message for a fault: its name and the advice for it, `BadOpcode: ..`.
 pub(crate) fn named_advice(alloc: Global, name: &str, advice: &str) -> Result<String, AllocError>
     requires name { IsPlainText name.now }
     requires advice { IsPlainText advice.now }
@@ -69,7 +69,7 @@ pub(crate) fn named_advice(alloc: Global, name: &str, advice: &str) -> Result<St
     Ok(text)
 }
 
-/// What is said of a fault whose advice begins with its name.
+/// Appends the message for a fault whose advice begins with its name.
 pub(crate) fn push_said(
     text: &mut String,
     form: LineForm,
@@ -86,14 +86,14 @@ pub(crate) fn push_said(
     }
 }
 
-// A rule's number, in front of what is said of it: `V10: `.
+// Appends the number of a rule that precedes its message: `V10: `.
 fn push_number(text: &mut String, rule: Rule) -> Result<(), AllocError>
     ensures added { OnOk result (string_bytes text.new ≡ string_bytes text.old ++ number_text rule) }
 {
     write!(text, "V{}: ", rule.number())
 }
 
-/// What is said of a rule that is broken.
+/// Appends the message for a broken rule.
 pub(crate) fn push_rule_said(
     alloc: Global,
     text: &mut String,

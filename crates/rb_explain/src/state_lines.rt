@@ -1,4 +1,4 @@
-//! The line of what is known before an instruction.
+//! The line with the abstract state before an instruction.
 
 ghost use Rattle.std.specs.Prelude.{◌≡◌, ◌<◌, ◌++◌, Some, OnOk, string_bytes};
 ghost use Rattle.std.specs.List.{flat_map};
@@ -11,7 +11,7 @@ use std::alloc::AllocError;
 use std::fmt;
 use std::fmt::Write;
 
-// How long a record is, where it is held.
+// The length of a record, if it is held.
 #[derive(Clone, Copy)]
 struct RecordSize(Option<Reference>);
 
@@ -26,7 +26,7 @@ impl fmt::Display for RecordSize {
     }
 }
 
-/// What a register holds.
+/// The value of a register.
 #[derive(Clone, Copy)]
 pub(crate) struct RegisterValue<'a> {
     pub(crate) held: &'a Held,
@@ -54,7 +54,7 @@ impl fmt::Display for RegisterValue<'_> {
     }
 }
 
-/// Whether a register that holds this may be read.
+/// Whether a register with this abstract value may be read.
 pub(crate) fn is_readable(value: Abs) -> bool
     ensures { result ≡ texts.is_readable value }
 {
@@ -64,7 +64,7 @@ pub(crate) fn is_readable(value: Abs) -> bool
     }
 }
 
-// A register with what it holds, where it may be read.
+// Appends a register with its value, if it may be read.
 fn push_register(text: &mut String, state: &AbsState, register: usize) -> Result<(), AllocError>
     requires { register < 11 }
     ensures added { OnOk result (string_bytes text.new ≡ string_bytes text.old ++ register_in state.now register) }
@@ -78,7 +78,7 @@ fn push_register(text: &mut String, state: &AbsState, register: usize) -> Result
     }
 }
 
-/// What a place of the stack keeps.
+/// The content of a place of the stack (an aligned 8-byte slot).
 #[derive(Clone, Copy)]
 pub(crate) struct Kept<'a> {
     pub(crate) held: &'a Held,
@@ -97,7 +97,7 @@ impl fmt::Display for Kept<'_> {
     }
 }
 
-/// Whether this is data, and no pointer.
+/// Whether an abstract value is data and not a pointer.
 pub(crate) fn is_data(value: Abs) -> bool
     ensures { result ≡ kept.is_data value }
 {
@@ -107,7 +107,7 @@ pub(crate) fn is_data(value: Abs) -> bool
     }
 }
 
-// A place of the stack with what it keeps, where it may keep a pointer.
+// Appends a place of the stack with its content, if it may hold a pointer. `behind` counts the places after it.
 fn push_place(text: &mut String, state: &AbsState, behind: u64) -> Result<(), AllocError>
     requires { behind < 64 }
     ensures added { OnOk result (string_bytes text.new ≡ string_bytes text.old ++ place_in state.now behind) }
@@ -133,7 +133,7 @@ impl fmt::Display for Tested {
     }
 }
 
-// A record that has to be given back.
+// A record that must be submitted or discarded.
 #[derive(Clone, Copy)]
 struct Holding(Reference);
 
@@ -161,7 +161,7 @@ fn push_reference(text: &mut String, reference: &Reference) -> Result<(), AllocE
     write!(text, "{}", Holding(*reference))
 }
 
-// All registers that may be read.
+// Appends all registers that may be read.
 #[tactic(auto, using(crate::proofs::Joining::joins), unfolding(crate::specs::StateTexts::registers_text))]
 fn push_registers(text: &mut String, state: &AbsState) -> Result<(), AllocError>
     ensures added { OnOk result (string_bytes text.new ≡ string_bytes text.old ++ registers_text state.now) }
@@ -172,7 +172,7 @@ fn push_registers(text: &mut String, state: &AbsState) -> Result<(), AllocError>
     Ok(())
 }
 
-// All places of the stack that may keep a pointer.
+// Appends all places of the stack that may hold a pointer.
 #[tactic(auto, using(crate::proofs::Joining::joins), unfolding(crate::specs::StateTexts::places_text))]
 fn push_places(text: &mut String, state: &AbsState) -> Result<(), AllocError>
     ensures added { OnOk result (string_bytes text.new ≡ string_bytes text.old ++ places_text state.now) }
@@ -183,7 +183,7 @@ fn push_places(text: &mut String, state: &AbsState) -> Result<(), AllocError>
     Ok(())
 }
 
-// All records that have to be given back.
+// Appends all records that must be submitted or discarded.
 #[tactic(auto, using(crate::proofs::Joining::joins_item))]
 fn push_references(text: &mut String, held: &[Reference]) -> Result<(), AllocError>
     ensures added { OnOk result (string_bytes text.new ≡ string_bytes text.old ++ flat_map reference_text held.now) }
@@ -195,7 +195,7 @@ fn push_references(text: &mut String, held: &[Reference]) -> Result<(), AllocErr
 }
 
 #[tactic(auto, using(crate::proofs::Joining::five))]
-/// What is known before an instruction.
+/// Appends the line with the state before an instruction.
 pub(crate) fn push_state(text: &mut String, state: &AbsState) -> Result<(), AllocError>
     ensures added { OnOk result (string_bytes text.new ≡ string_bytes text.old ++ state_text state.now) }
 {

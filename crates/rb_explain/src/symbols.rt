@@ -1,4 +1,4 @@
-//! The symbols and the names of types that stand in assembly.
+//! The symbols and type names in assembly.
 
 ghost use Rattle.std.specs.Prelude.{◌≡◌};
 ghost use Rattle.rb_explain.specs.AssemblyParts as parts;
@@ -8,6 +8,7 @@ use rb_insn::{
     SwapWidth,
 };
 
+/// Returns the operator of an arithmetic operation, as in `r1 += r2`.
 pub(crate) fn binary_symbol(op: BinaryOp) -> &'static str
     ensures { result.now ≡ parts.binary_symbol op }
 {
@@ -24,6 +25,7 @@ pub(crate) fn binary_symbol(op: BinaryOp) -> &'static str
     }
 }
 
+/// Returns the operator of a division or a remainder.
 pub(crate) fn division_symbol(sign: Signedness, op: DivisionOp) -> &'static str
     ensures { result.now ≡ parts.division_symbol sign op }
 {
@@ -35,6 +37,7 @@ pub(crate) fn division_symbol(sign: Signedness, op: DivisionOp) -> &'static str
     }
 }
 
+/// Returns the operator of a comparison.
 pub(crate) fn condition_symbol(condition: Condition) -> &'static str
     ensures { result.now ≡ parts.condition_symbol condition }
 {
@@ -53,6 +56,7 @@ pub(crate) fn condition_symbol(condition: Condition) -> &'static str
     }
 }
 
+/// Returns the type that a 32-bit sign-extending move converts from.
 pub(crate) fn extend32_type(from: Extend32) -> &'static str
     ensures { result.now ≡ parts.extend32_type from }
 {
@@ -62,6 +66,7 @@ pub(crate) fn extend32_type(from: Extend32) -> &'static str
     }
 }
 
+/// Returns the type that a 64-bit sign-extending move converts from.
 pub(crate) fn extend64_type(from: Extend64) -> &'static str
     ensures { result.now ≡ parts.extend64_type from }
 {
@@ -72,6 +77,7 @@ pub(crate) fn extend64_type(from: Extend64) -> &'static str
     }
 }
 
+/// Returns the name of a byte swap's order.
 pub(crate) fn byte_order_name(order: ByteOrder) -> &'static str
     ensures { result.now ≡ parts.byte_order_name order }
 {
@@ -82,6 +88,7 @@ pub(crate) fn byte_order_name(order: ByteOrder) -> &'static str
     }
 }
 
+/// Returns the width of a byte swap in bits, as text.
 pub(crate) fn swap_width_name(width: SwapWidth) -> &'static str
     ensures { result.now ≡ parts.swap_width_name width }
 {
@@ -92,6 +99,7 @@ pub(crate) fn swap_width_name(width: SwapWidth) -> &'static str
     }
 }
 
+/// Returns the unsigned type of a load or a store.
 pub(crate) fn size_type(size: Size) -> &'static str
     ensures { result.now ≡ parts.size_type size }
 {
@@ -103,6 +111,7 @@ pub(crate) fn size_type(size: Size) -> &'static str
     }
 }
 
+/// Returns the signed type of a sign-extending load.
 pub(crate) fn signed_size_type(size: SignedSize) -> &'static str
     ensures { result.now ≡ parts.signed_size_type size }
 {

@@ -14,10 +14,10 @@ use rb_json::LineForm;
 use rb_program::{Program, decode};
 use std::alloc::{AllocError, Global};
 
-/// How many units are shown before a fault, and how many behind it.
+/// How many units are shown before a fault, and how many after it.
 const NEAR: u32 = 4;
 
-/// How many units are shown of bytes that are no program, from the one with the fault on.
+/// How many units are shown, from the faulty one on, for bytes that are not a program.
 const RAW: u32 = 3;
 
 fn is_near_to(at: u32, unit: u32) -> bool
@@ -28,14 +28,14 @@ fn is_near_to(at: u32, unit: u32) -> bool
     unit <= at + NEAR && at <= unit + NEAR
 }
 
-// The mark under the unit of the fault.
+// Returns the mark that is printed below the faulty unit.
 fn mark_of(at: u32, unit: u32) -> &'static str
     ensures { result.now ≡ mark_under at unit }
 {
     if unit == at { "   ^\n" } else { "" }
 }
 
-// An instruction, in words with the mark under it where the fault is its own.
+// Appends an instruction; in words, with the mark below it if it has the fault.
 fn push_insn(
     alloc: Global,
     text: &mut String,
@@ -55,7 +55,7 @@ fn push_insn(
     }
 }
 
-// The instruction at a unit, where one begins that is near the fault.
+// Appends the instruction that begins at a unit, if one does and it is near the fault.
 fn push_near(
     alloc: Global,
     text: &mut String,
@@ -75,7 +75,7 @@ fn push_near(
 }
 
 #[tactic(auto, using(crate::proofs::Joining::joins))]
-/// The lines around a unit, in words with the mark under it.
+/// Appends the lines around a unit; in words, with the mark below it.
 pub(crate) fn push_window(
     alloc: Global,
     text: &mut String,
@@ -93,7 +93,7 @@ pub(crate) fn push_window(
     Ok(())
 }
 
-// The bytes of a unit that was not read, in words with the mark under it where the fault is its own.
+// Appends the bytes of a unit that was not decoded; in words, with the mark below it if it has the fault.
 fn push_raw(
     alloc: Global,
     text: &mut String,
@@ -113,7 +113,7 @@ fn push_raw(
     }
 }
 
-// The same of the bytes of a unit, where there is one.
+// Appends the bytes of a unit like `push_raw`, if the unit exists.
 fn push_raw_at(
     alloc: Global,
     text: &mut String,
@@ -134,7 +134,7 @@ fn push_raw_at(
     }
 }
 
-// The bytes of the units from the fault on.
+// Appends the bytes of the units from the faulty one on.
 #[tactic(auto, using(crate::proofs::Joining::joins))]
 fn push_raws(
     alloc: Global,
@@ -153,7 +153,7 @@ fn push_raws(
     Ok(())
 }
 
-/// The program of bytes that spell one; only memory may be missing.
+/// Returns the program that these bytes encode; the only possible error is a failed allocation.
 pub(crate) fn decode_again(alloc: Global, bytes: &[u8]) -> Result<Program, AllocError>
     ensures spelled { IfOk result (λ program. SpellsAll program bytes.now) }
     ensures same { (program : List Insn) → IsProgram program → SpellsAll program bytes.now → IfOk result (λ found. found ≡ program) }
@@ -164,7 +164,7 @@ pub(crate) fn decode_again(alloc: Global, bytes: &[u8]) -> Result<Program, Alloc
     }
 }
 
-// The lines before a fault.
+// Appends the lines before a fault.
 fn push_front(
     alloc: Global,
     text: &mut String,
@@ -184,7 +184,7 @@ fn push_front(
     push_window(alloc, text, form, &front, at)
 }
 
-/// The lines before a fault of bytes, and the bytes of the units from it on.
+/// Returns the lines before a decode fault, and the bytes of the units from the faulty one on.
 pub(crate) fn units_text(
     alloc: Global,
     form: LineForm,

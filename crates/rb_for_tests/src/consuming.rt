@@ -7,19 +7,19 @@ use rb_shared_ring::{ConsumerSeat, SharedRing, WaitBackoff};
 use std::sync::Wait;
 use std::sync::atomic::{AtomicBool, Ordering};
 
-/// What a look for records came to.
+/// The outcome of a check for records.
 #[derive(Clone, Copy, Debug, PartialEq, Eq)]
 pub enum Found {
     /// There was no record to take.
     Nothing,
-    /// All records that could be taken were taken.
+    /// All available records were taken.
     All,
-    /// As many were taken as one look takes, and there may be more.
+    /// As many records were taken as one check takes, and there may be more.
     Part,
 }
 
 impl Found {
-    /// What a look came to that took so many records, where it takes `most` at most.
+    /// Returns the outcome of a check that took `count` records, if one takes at most `most`.
     pub fn of(count: usize, most: usize) -> Found
         ensures nothing { (result ≡ Found.Nothing) ↔ (count ≡ 0) }
         ensures part { (result ≡ Found.Part) ↔ ((0 < count) × (most ≤ count)) }
@@ -36,14 +36,14 @@ impl Found {
 
 /// What a thread does with the consumer's seat.
 pub trait Consumer {
-    /// Looks for records once, and takes those that it finds.
+    /// Checks for records once, and takes those that it finds.
     fn look<R: Wait>(&mut self, rt: &R, ring: &SharedRing, seat: &mut ConsumerSeat) -> Found
         requires ring { seat.old.ring ≡ ring.now.ring }
         ensures seat { IsSameChapterConsumer seat.old seat.new };
 }
 
-// Looks for records until the producers have ended and a look that began after that finds none. Where there is nothing left to take it waits,
-// for longer each time that it found nothing.
+// Checks for records until the producers have ended and a check that began after that finds none. Waits after a check
+// that leaves no record to take; the wait grows with each check that finds nothing.
 pub(crate) fn consume<R: Wait, C: Consumer>(
     rt: &R,
     ring: &SharedRing,

@@ -1,4 +1,4 @@
-//! What an entry says, and what became of a record that is kept, each as its definition says it.
+//! Classification of entries and of stored records, as their definitions have it.
 
 ghost use Rattle.std.specs.Prelude.{◌≡◌};
 ghost use Rattle.rb_history.specs.History.{is_grant_of};
@@ -15,7 +15,7 @@ pub fn is_grant(entry: &Entry) -> bool
     matches!(entry, Entry::Res(_, _, _, _))
 }
 
-/// Whether the entry says that there was no room.
+/// Whether the entry is a refusal for lack of room.
 pub fn is_refusal(entry: &Entry) -> bool
     ensures test { result ≡ is_refusal_entry entry.now }
 {

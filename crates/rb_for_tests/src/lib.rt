@@ -1,12 +1,14 @@
-//! What tests and programs of trials share. No library uses it.
+//! Shared code of the tests and trial programs. No library uses it.
 //!
-//! `PlainRing` is the plain twin of `rb_chapter_ring`'s `RingState`: a BPF ring buffer for one thread (Linux Documentation/bpf/ringbuf.rst) that keeps its whole
-//! history, and whose records are a plain list. Its contracts are the definitions of `rb_history` over whole histories, and its body is short: tests
-//! give both the same calls and compare the answers.
+//! `PlainRing` is the plain twin of `rb_chapter_ring`'s `RingState`: a BPF ring buffer for one thread (Linux
+//! Documentation/bpf/ringbuf.rst) that keeps its whole history, and whose records are a plain list. Its contracts are
+//! the definitions of `rb_history` for whole histories, and its body is short. Tests make the same calls on both and
+//! compare the answers.
 //!
-//! `OpenRing` is a shared ring with threads: a `Producer` at each of its seats, beside a `Consumer`, which looks for records again and again until the
-//! producers have ended and there are none. All seats are the ring's own from its opening to its end (`specs/OwnSeats.antt`), so nobody is told that a
-//! seat is foreign. No proof speaks of waiting, fairness or time: that a thread runs, or that the run ends.
+//! `OpenRing` is a shared ring with threads: a `Producer` at each of its seats, and a `Consumer`, which checks for
+//! records repeatedly until the producers have ended and none is left. All seats are the ring's own from its opening to
+//! its end (`specs/OwnSeats.antt`), so no call is refused for a foreign seat. Nothing is proved about waiting, fairness
+//! or time: not that a thread runs, nor that the run ends.
 #![tactic(auto)]
 
 mod consuming;

@@ -7,10 +7,12 @@ use crate::plain_ring::PlainRing;
 use rb_history::Taken;
 
 impl PlainRing {
-    /// Takes up to `n` records, as so many calls of `take`, pushes each that was handed out or passed over onto `out`, and returns how
-    /// many they are. It stops before the first take that finds a busy record or none, so it pushes neither `BusyFront` nor `Empty`. It
-    /// takes no memory, and constant time for each record. (Linux Documentation/bpf/ringbuf.rst: records are consumed in the order of their
-    /// reservation.)
+    /// Takes up to `n` records, as `n` calls of `take` would, appends each event or skipped record to `out`, and
+    /// returns their number. It stops before the first take that finds a busy record or none, so it appends neither
+    /// `BusyFront` nor `Empty`.
+    ///
+    /// Allocates nothing, and takes constant time for each record. (Linux Documentation/bpf/ringbuf.rst: records are
+    /// consumed in the order of their reservation.)
     pub fn take_many(&mut self, n: usize, out: &mut Vec<Taken>) -> usize
         requires room { vec_len out.old + n ≤ vec_capacity out.old }
         ensures same_ring { self.new.setup ≡ self.old.setup }

@@ -1,4 +1,4 @@
-//! A shared ring and its seats, from the opening to the end.
+//! A shared ring and its seats, from its opening to its end.
 
 ghost use Rattle.std.specs.Prelude.{◌≡◌, ◌↔◌, All, IsOk, IfOk, IfErr, IsErrOf, true};
 ghost use Rattle.rb_history.specs.RingModel.{IsRingSize, IsWorkerCount};
@@ -17,19 +17,19 @@ use std::sync::Wait;
 use std::sync::atomic::{AtomicBool, Ordering};
 use std::thread::{Threads, join_mut};
 
-/// A shared ring with all its seats.
+/// A shared ring with all its seats (the handles of its workers and its consumer).
 #[derive(Drop)]
 pub struct OpenRing {
     /// The ring.
     pub ring: SharedRing,
-    /// A seat for each worker: the first is worker 0's.
+    /// A seat for each worker. The first is worker 0's.
     pub seats: Vec<Seat>,
     /// The consumer's seat.
     pub consumer: ConsumerSeat,
 }
 
 impl OpenRing {
-    /// Opens a ring whose positions begin at 0, as `rb_shared_ring::open` does.
+    /// Opens a ring whose positions start at 0, as `rb_shared_ring::open` does.
     pub fn open<R: Wait>(
         rt: &R,
         alloc: Global,
@@ -54,8 +54,8 @@ impl OpenRing {
         })
     }
 
-    /// Has the producer work at each seat and the consumer take what is made, each in a thread of its own, or all of it here where no threads
-    /// can be made. The consumer ends once the producers have ended and a look after that finds nothing.
+    /// Runs the producer at each seat and the consumer, each in its own thread, or all of them on this thread if no
+    /// threads can be created. The consumer ends once the producers have ended and a check after that finds nothing.
     pub fn run<R: Threads + Wait + Sync, P: Producer + Sync, C: Consumer + Send>(
         &mut self,
         rt: &R,
@@ -78,7 +78,8 @@ impl OpenRing {
         );
     }
 
-    /// Closes the ring with its seats, as `SharedRing::close` does. Where one of them was taken out it is not closed, and all is handed back.
+    /// Closes the ring with its seats, as `SharedRing::close` does. If one of them was taken out, the ring is not
+    /// closed, and everything is handed back.
     pub fn close<R: Wait>(self, rt: &R) -> Result<Closing, NotAll>
         requires own { HasOwnSeats self }
         ensures all { IsOk result ↔ ((self.consumer.tag ≡ self.ring.tag) × (are_tagged self.ring.tag self.seats.items ≡ true) × HasAll self.consumer.seen.setup.workers self.seats.items) }
@@ -90,7 +91,7 @@ impl OpenRing {
     }
 }
 
-// The producers and the consumer in threads of their own.
+// Runs the producers and the consumer in threads of their own.
 fn run_threads<R: Threads + Wait + Sync, P: Producer + Sync, C: Consumer + Send>(
     rt: &R,
     ring: &SharedRing,

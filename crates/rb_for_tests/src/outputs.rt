@@ -1,4 +1,4 @@
-//! Records that a producer makes, however long it takes.
+//! Records that a producer outputs, however long it takes.
 
 ghost use Rattle.std.specs.Prelude.{◌≡◌, ◌≤◌, ◌+◌, replicate};
 ghost use Rattle.rb_ledger.specs.Seats.{IsSameSeat};
@@ -10,14 +10,14 @@ use std::alloc::Global;
 use std::sync::Wait;
 use std::thread;
 
-/// A producer that outputs so many records, all of one length. A record's bytes are its number among them, modulo 256.
+/// A producer that outputs this many records, all of the same length. A record's bytes are its index, modulo 256.
 #[derive(Clone, Copy)]
 pub struct Outputs {
-    /// Where the records' bytes have their memory.
+    /// The allocator of the records' bytes.
     pub alloc: Global,
-    /// How many records each worker makes.
+    /// The number of records that each worker outputs.
     pub records: u32,
-    /// How many bytes a record has.
+    /// The length of a record in bytes.
     pub len: u32,
 }
 
@@ -33,8 +33,8 @@ impl Producer for Outputs {
     }
 }
 
-/// Outputs one record, however often it is refused: it waits for longer each time, and tries again. For flags above 3, and at a ring with
-/// another tag, it does not return.
+/// Outputs one record, retrying while it is refused, with a longer wait each time. Never returns for flags above 3, or
+/// at a ring with another tag.
 pub fn output<R: Wait>(rt: &R, ring: &SharedRing, seat: &mut Seat, sheet: Sheet, flags: u64)
     requires ring { seat.old.ring ≡ ring.now.ring }
     ensures seat { IsSameSeat seat.old seat.new }
@@ -54,7 +54,7 @@ pub fn output<R: Wait>(rt: &R, ring: &SharedRing, seat: &mut Seat, sheet: Sheet,
     unreachable!()
 }
 
-/// A sheet of `len` zeros, once there is memory for it.
+/// Returns a sheet of `len` zeros, once it can be allocated.
 pub fn sheet<R: Wait>(rt: &R, alloc: Global, len: u32) -> Sheet
     ensures zeros { result ≡ replicate len 0 }
 {

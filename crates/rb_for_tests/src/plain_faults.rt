@@ -1,20 +1,21 @@
-//! Why the plain ring refuses.
+//! Errors of the plain ring.
 
 use crate::plain_reservation::PlainReservation;
 use rb_history::SetupFault;
 
-/// Why a plain ring can't be made. `Memory` is told only where its numbers are a ring's.
+/// Why a plain ring cannot be created. `Memory` is returned only if its numbers are valid.
 #[derive(Clone, Copy, Debug, PartialEq, Eq)]
 pub enum PlainOpenFault {
-    /// Its numbers are no ring's.
+    /// Its numbers are not valid for a ring.
     Setup(SetupFault),
-    /// There is no memory for the ring.
+    /// The ring could not be allocated.
     Memory,
 }
 
-/// A reservation that agrees with no busy record of the ring in position, worker, serial and length. It is handed back whole.
+/// A reservation that matches no busy record of the ring by position, worker, serial and length. It is handed back
+/// whole.
 #[derive(Drop)]
 pub struct Stray {
-    /// The reservation that was handed in.
+    /// The reservation that was handed back.
     pub reservation: PlainReservation,
 }

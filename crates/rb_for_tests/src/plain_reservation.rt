@@ -1,4 +1,4 @@
-//! What a worker holds of a record that the plain ring granted it.
+//! A worker's reservation of a record that the plain ring granted.
 
 ghost use Rattle.std.specs.Prelude.{◌≡◌, length};
 ghost use Rattle.rb_history.specs.ReservationModel.{Granted};
@@ -6,7 +6,8 @@ ghost use Rattle.rb_history.specs.ReservationModel.{Granted};
 use rb_lend::{Lent, Sheet};
 use std::marker::Model;
 
-/// A granted record and its bytes. It is submitted or discarded once, and can't be cloned. Dropped without either, its record stays busy.
+/// A granted record and its bytes. It is submitted or discarded once, and cannot be cloned. If it is dropped without
+/// either, its record stays busy.
 #[derive(Drop)]
 pub struct PlainReservation {
     pos: u64,
@@ -24,8 +25,8 @@ impl Model for PlainReservation {
 }
 
 impl PlainReservation {
-    /// The reservation of a record at a position, of this worker and serial, as long as the sheet. The ring hands it back as `Stray`, unless a busy
-    /// record has its four numbers.
+    /// Returns the reservation of a record with this position, worker and serial, as long as the sheet. The ring hands
+    /// it back as `Stray`, unless a busy record has its four numbers.
     pub fn new(pos: u64, worker: u32, serial: u64, sheet: Sheet) -> PlainReservation
         ensures parts { result ≡ record { pos = pos; worker = worker; serial = serial; bytes = sheet } }
     {
@@ -37,35 +38,35 @@ impl PlainReservation {
         }
     }
 
-    /// The record's position, in bytes.
+    /// Returns the record's position, in bytes.
     pub fn pos(&self) -> u64
         ensures value { result ≡ self.now.pos }
     {
         self.pos
     }
 
-    /// The number of the worker that the record was granted to.
+    /// Returns the number of the worker that the record was granted to.
     pub fn worker(&self) -> u32
         ensures value { result ≡ self.now.worker }
     {
         self.worker
     }
 
-    /// How many records this ring granted that worker before.
+    /// Returns how many records this ring granted to that worker before.
     pub fn serial(&self) -> u64
         ensures value { result ≡ self.now.serial }
     {
         self.serial
     }
 
-    /// The record's length in bytes.
+    /// Returns the record's length in bytes.
     pub fn len(&self) -> u32
         ensures value { result ≡ length self.now.bytes }
     {
         self.sheet.len()
     }
 
-    // The reservation's sheet, with the bytes that were written.
+    // Returns the reservation's sheet, with the bytes that were written.
     pub(crate) fn into_sheet(self) -> Sheet
         ensures value { result ≡ self.bytes }
     {

@@ -24,10 +24,12 @@ use std::alloc::Global;
 use std::collections::VecDeque;
 use std::marker::Model;
 
-/// One ring of records, for one thread, whose records are a plain list (Linux Documentation/bpf/ringbuf.rst), and which keeps its whole
-/// history. `submit` and `discard` take time linear in the records that were not taken, as they look for theirs from the front, and
-/// `counts` in the history. The others take constant time, but for a record's
-/// own bytes and the amortised growth of the lists.
+/// A ring for one thread, whose records are a plain list (Linux Documentation/bpf/ringbuf.rst), and which keeps its
+/// whole history.
+///
+/// `submit` and `discard` take time linear in the records that were not taken, because they search the list from the
+/// front; `counts` takes time linear in the history. The other calls take constant time, apart from a record's bytes
+/// and the amortised growth of the lists.
 #[derive(Drop)]
 pub struct PlainRing {
     size: u64,
@@ -36,9 +38,9 @@ pub struct PlainRing {
     producer: u64,
     consumer: u64,
     history: Vec<Entry>,
-    // How many entries the records that are there still wait for. The history keeps room for them.
+    // The number of entries that the current records will still log. The history has spare capacity for them.
     owed: usize,
-    // How many records each worker was granted.
+    // The number of records that each worker was granted.
     serials: Vec<u64>,
     records: VecDeque<StoredRecord>,
 }
@@ -60,8 +62,8 @@ impl Model for PlainRing {
 }
 
 impl PlainRing {
-    /// A ring without records, of `size` bytes, whose positions begin at `start`, for `workers` workers, or why there is none. In
-    /// time linear in the workers.
+    /// Returns an empty ring of `size` bytes, whose positions start at `start`, for `workers` workers, or why there is
+    /// none. Linear in the workers.
     pub fn new(
         alloc: Global,
         size: u64,
@@ -93,8 +95,8 @@ impl PlainRing {
         })
     }
 
-    /// What holds of each ring: its history is legal, it is what the ring's state stands for, and its numbers are within bounds.
-    /// The call does nothing.
+    /// The invariant of every ring: its history is legal, the ring's state represents it, and its numbers are within
+    /// bounds. The call does nothing.
     pub fn facts(&self)
         ensures legal { IsLegal self.now.setup self.now.history }
         ensures stands { StandsFor self.now }
@@ -103,15 +105,15 @@ impl PlainRing {
         let _ = &self.history;
     }
 
-    /// The whole history since `new`, oldest entry first.
+    /// Returns the whole history since `new`, oldest entry first.
     pub fn history(&self) -> &[Entry]
         ensures entries { result.now ≡ self.now.history }
     {
         self.history.as_slice()
     }
 
-    /// The answers to a query (bpf-helpers(7), bpf_ringbuf_query): `AVAIL_DATA` asks for the bytes between the two
-    /// positions, `RING_SIZE`, `CONS_POS` and `PROD_POS` for what they name; any other number gives 0.
+    /// Returns the answer to a query (bpf-helpers(7), bpf_ringbuf_query): `AVAIL_DATA` is the number of bytes between
+    /// the two positions; `RING_SIZE`, `CONS_POS` and `PROD_POS` are what they name; any other number gives 0.
     pub fn query(&self, what: u64) -> u64
         ensures answer { result ≡ query_answer self.now.setup self.now.history what }
     {
@@ -124,7 +126,7 @@ impl PlainRing {
         }
     }
 
-    /// The six counts of the history. Linear in the history.
+    /// Returns the six counts of the history. Linear in the history.
     pub fn counts(&self) -> Counts
         ensures counts { result ≡ counts_of self.now.history }
     {
@@ -143,9 +145,9 @@ impl PlainRing {
         }
     }
 
-    /// Grants worker `worker` a record of `n` bytes at the producer position, in a sheet of as many bytes, which become
-    /// zeros; or logs that it finds no room, and hands the sheet back. `Memory` changes nothing and hands the sheet back too.
-    /// (bpf-helpers(7), bpf_ringbuf_reserve.)
+    /// Grants worker `worker` a record of `n` bytes at the producer position, in a sheet of the same length, which is
+    /// zeroed. If there is no room, logs the refusal and hands the sheet back. `Memory` changes nothing and hands the
+    /// sheet back too. (bpf-helpers(7), bpf_ringbuf_reserve.)
     pub fn reserve(
         &mut self,
         worker: u32,
@@ -172,8 +174,8 @@ impl PlainRing {
         }
     }
 
-    /// Hands the reservation's bytes to the consumer, or hands the reservation back where no busy record has its four
-    /// numbers. Of the flags only bits 0 and 1 are looked at. It takes no memory. (bpf-helpers(7), bpf_ringbuf_submit.)
+    /// Submits the reservation's bytes to the consumer, or hands the reservation back if no busy record has its four
+    /// numbers. Only bits 0 and 1 of the flags are used. Allocates nothing. (bpf-helpers(7), bpf_ringbuf_submit.)
     pub fn submit(&mut self, reservation: PlainReservation, flags: u64) -> Result<Notice, Stray>
         ensures same_ring { self.new.setup ≡ self.old.setup }
         ensures submitted { OnOk result (Submits self.old self.new reservation) }
@@ -192,8 +194,8 @@ impl PlainRing {
         }
     }
 
-    /// Gives the reservation's record up, so that the consumer passes over it, or hands the reservation back where no busy
-    /// record has its four numbers. Of the flags only bits 0 and 1 are looked at. It takes no memory. (bpf-helpers(7),
+    /// Discards the reservation's record, so that the consumer skips it, or hands the reservation back if no busy
+    /// record has its four numbers. Only bits 0 and 1 of the flags are used. Allocates nothing. (bpf-helpers(7),
     /// bpf_ringbuf_discard.)
     pub fn discard(&mut self, reservation: PlainReservation, flags: u64) -> Result<Notice, Stray>
         ensures same_ring { self.new.setup ≡ self.old.setup }
@@ -213,9 +215,9 @@ impl PlainRing {
         }
     }
 
-    /// Grants worker `worker` a record and submits it at once, with the sheet's bytes. Unknown flags are refused first, and
-    /// nothing is logged then; otherwise it refuses as `reserve` does. A refusal hands the sheet back. (bpf-helpers(7),
-    /// bpf_ringbuf_output.)
+    /// Grants worker `worker` a record and submits it in the same call, with the sheet's bytes. Unknown flags are
+    /// refused first, without an entry; otherwise it refuses as `reserve` does. A refusal hands the sheet back.
+    /// (bpf-helpers(7), bpf_ringbuf_output.)
     pub fn output(
         &mut self,
         worker: u32,
@@ -245,9 +247,9 @@ impl PlainRing {
         }
     }
 
-    /// Takes the record at the consumer position: hands out a submitted one and passes over a discarded one. A busy one
-    /// stops it, whatever waits behind. It takes no memory. (Linux Documentation/bpf/ringbuf.rst: records are consumed in the
-    /// order of their reservation.)
+    /// Takes the record at the consumer position: returns a submitted record and skips a discarded one. A busy record
+    /// stops it, whatever is waiting after it. Allocates nothing. (Linux Documentation/bpf/ringbuf.rst: records are
+    /// consumed in the order of their reservation.)
     pub fn take(&mut self) -> Taken
         ensures same_ring { self.new.setup ≡ self.old.setup }
         ensures takes { Takes self.old self.new result }
@@ -277,7 +279,7 @@ impl PlainRing {
         end <= self.consumer + (self.size - 1) && end <= POSITION_LIMIT
     }
 
-    // Logs that there is no room. It takes room for that one entry.
+    // Logs that there is no room. Allocates capacity for that one entry.
     fn refuse(&mut self, worker: u32, n: u32) -> NoGrant
         requires worker { worker < self.old.setup.workers }
         requires full { ¬ RingHasRoom self.old n }
@@ -292,8 +294,8 @@ impl PlainRing {
         NoGrant::Full
     }
 
-    // Grants a busy record of `n` bytes, or logs that it has no room. First comes the room for all that the record will
-    // ever log, and for its place.
+    // Grants a busy record of `n` bytes, or logs that there is no room. First reserves capacity for all entries that
+    // the record will ever log, and for the record itself.
     fn grant(&mut self, worker: u32, n: u32) -> Result<(u64, u64), NoGrant>
         requires worker { worker < self.old.setup.workers }
         ensures same_ring { self.new.setup ≡ self.old.setup }
@@ -326,7 +328,7 @@ impl PlainRing {
         Ok((pos, serial))
     }
 
-    // The busy record at an index is given its bytes.
+    // Submits the busy record at an index with these bytes.
     fn send(&mut self, index: usize, pos: u64, sheet: Sheet)
         requires { IsBusyAt self.old.shown index pos (length sheet) }
         ensures logged { Logs self.old self.new (Entry.Sub pos ∷ []) }
@@ -337,7 +339,7 @@ impl PlainRing {
         self.owed -= 1;
     }
 
-    // The busy record at an index is given up.
+    // Discards the busy record at an index.
     fn give_up(&mut self, index: usize, pos: u64, len: u32)
         requires { IsBusyAt self.old.shown index pos len }
         ensures logged { Logs self.old self.new (Entry.Dis pos ∷ []) }
@@ -348,7 +350,7 @@ impl PlainRing {
         self.owed -= 1;
     }
 
-    // Whether a notice is due for the record at `pos`.
+    // Returns whether a notice (a wake-up) is due for the record at `pos`.
     fn notice(&self, pos: u64, flags: u64) -> Notice
         ensures due { (result ≡ Notice.Due) ↔ IsDue (consumer_now self.now) pos flags }
     {
@@ -361,7 +363,7 @@ impl PlainRing {
         self.producer
     }
 
-    // The place of the reservation's record in the list, if it is busy.
+    // Returns the index of the reservation's record in the list, if it is busy.
     fn find_busy(&self, reservation: &PlainReservation) -> Option<usize>
         ensures found { IfSome result (λ i. IsBusyAt self.now.shown i reservation.now.pos (length reservation.now.bytes)) }
         ensures busy { OnSome result (HoldsReservation self.now reservation.now) }
@@ -371,7 +373,7 @@ impl PlainRing {
     }
 }
 
-// Puts a record behind the others, where there is room for it.
+// Appends a record. There is room for it.
 fn push_last(records: &mut VecDeque<StoredRecord>, newest: StoredRecord)
     requires { deque_len records.old < deque_capacity records.old }
     ensures items { records.new.items ≡ records.old.items ++ newest ∷ [] }

@@ -10,7 +10,7 @@ use std::thread::Threads;
 
 /// What a thread does with a worker's seat.
 pub trait Producer {
-    /// What holds of a seat once all of its calls are made.
+    /// The property of a seat after all of its calls are made.
     ghost is_done: { Self → WorkerSeat → Type 0 };
 
     /// Makes all of the worker's calls at the ring.
@@ -20,7 +20,7 @@ pub trait Producer {
         ensures done { is_done self.now seat.new };
 }
 
-// Produces at each seat in a thread of its own, or here where none can be made.
+// Runs the producer at each seat, in a thread of its own, or on this thread if none can be created.
 pub(crate) fn produce_all<R: Threads + Wait + Sync, P: Producer + Sync>(
     rt: &R,
     ring: &SharedRing,

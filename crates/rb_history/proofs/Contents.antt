@@ -27,7 +27,7 @@ hit-no q k e = unsigned_tied q k ∙ ne_eqb q k e
 look : ℕ → List (ℕ × List ℕ) → Option (List ℕ)
 look q es = find nat_cmp q es
 
--- not the key of this entry
+-- the entry's key is another one
 abbrev NotAt : ℕ → Option (ℕ × List ℕ) → Type 0
 NotAt k None = Unit {0}
 NotAt k (Some e) = e.0 ≢ k
@@ -84,7 +84,7 @@ look-set q c (t ∷ stored) p (suc i) y s h l new old =
     look-under q (get_or stored i y).pos (record_bytes t) (Some s) (filter_map record_bytes stored) (filter_map record_bytes (set stored i y)) (not-at (get_or stored i y).pos t.pos t.state away)
     (look-set q (c + span t.len) stored p i y s h.1 (omega arith) new old)
 
--- a record at an index is given its bytes
+-- the record at an index gets its bytes
 pub contents-set : (c : ℕ) (stored : List StoredRecord) (p i : ℕ) (y : StoredRecord) (s : List ℕ) → InRow c (map shown_record stored) p → i < length stored →
     record_bytes y ≡ Some ((get_or stored i y).pos, s) → record_bytes (get_or stored i y) ≡ None →
     contents_of (set stored i y) ≡ insert (contents_of stored) (get_or stored i y).pos s
@@ -93,7 +93,7 @@ contents-set c stored p i y s h l new old = same_map nat_cmp_total nat_cmp-IsAnt
     ∙ look-set q c stored p i y s h l new old
     ∙ sym (get-insert nat_cmp_total (contents_of stored) (get_or stored i y).pos s q ∙ ap (cond (eq_by_cmp nat_cmp q (get_or stored i y).pos) (Some s)) (get-from_entries nat_cmp_total (filter_map record_bytes stored) q)))
 
--- a record without bytes changes to another without bytes
+-- a record without bytes is replaced by another without bytes
 bytes-set : (stored : List StoredRecord) (i : ℕ) (y : StoredRecord) → i < length stored → record_bytes y ≡ None → record_bytes (get_or stored i y) ≡ None →
     filter_map record_bytes (set stored i y) ≡ filter_map record_bytes stored
 bytes-set [] i y l new old = absurd (omega arith)
@@ -104,11 +104,11 @@ pub contents-unset : (stored : List StoredRecord) (i : ℕ) (y : StoredRecord) �
     contents_of (set stored i y) ≡ contents_of stored
 contents-unset stored i y l new old = ap from_entries (bytes-set stored i y l new old)
 
--- a new record without bytes
+-- a record without bytes is appended
 pub contents-push : (stored : List StoredRecord) (y : StoredRecord) → record_bytes y ≡ None → contents_of (stored ++ y ∷ []) ≡ contents_of stored
 contents-push stored y none = ap from_entries (filter_map-append record_bytes stored (y ∷ []) ∙ rw none (append-nil _))
 
--- the record at the front goes
+-- the record at the front is removed
 pub contents-front : (c : ℕ) (t : StoredRecord) (stored : List StoredRecord) (p : ℕ) (s : List ℕ) → InRow c (map shown_record (t ∷ stored)) p → record_bytes t ≡ Some (t.pos, s) →
     contents_of stored ≡ remove (contents_of (t ∷ stored)) t.pos
 contents-front c t stored p s h is = same_map nat_cmp_total nat_cmp-IsAntisymmetric _ _ (λ q.

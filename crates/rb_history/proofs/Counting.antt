@@ -1,4 +1,4 @@
--- The counts of a history, from the records that are there.
+-- The counts of a history, computed from the records that were not taken.
 use Rattle.std.proofs.Common.{◌≡◌, ℕ, ◌+◌, ◌-◌, Bool, true, false, cond, ◌||◌, List, [], ◌∷◌, Some, None, map, refl, sym, ap, ◌∙◌, arith}
 use Rattle.std.specs.List.{sum_by, count_by}
 use Rattle.rb_history.specs.declared.entries.Entry.{Entry}
@@ -56,7 +56,7 @@ busy-entry h c (Sub q) = refl
 busy-entry h c (Dis q) = refl
 busy-entry h c (Take q) = refl
 
--- the records that are there and wait, and those that are busy
+-- the waiting records are those that are shown as waiting; likewise the busy ones
 pub waiting-shown : (h : List Entry) → status_count Waiting h ≡ count_by (λ s. is_same Waiting s.status) (records h)
 unfolding status_bit
 waiting-shown h = sum_by-only (λ e. bit (has_status Waiting h e)) (untaken h) (status_bit Waiting) (waiting-entry h) h
@@ -114,7 +114,7 @@ split h (e ∷ es) =
       sum_by-cons (λ x. bit (has_status Discarded h x)) e es,
     )
 
--- each record is in one of the four statuses
+-- each record has one of the four statuses
 pub made-split : (h : List Entry) → count_by is_grant_entry h ≡ status_count Busy h + status_count Waiting h + status_count Consumed h + status_count Discarded h
 made-split h = split h h
 

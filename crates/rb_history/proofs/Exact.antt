@@ -1,4 +1,4 @@
--- Which answer a take gives is settled by the history.
+-- The history determines what a take returns.
 use Rattle.std.proofs.Common.{◌≡◌, ℕ, ◌<◌, ◌≤◌, true, false, List, [], ◌∷◌, length, map, refl, sym, ap, ◌∙◌, inl, inr, arith, subst, ◌↔◌}
 use Rattle.std.specs.List.{All, Contains}
 use Rattle.std.proofs.lemmas.Bool.{cases_lt, ne_eqb, eq-eqb, true≢false}
@@ -25,7 +25,7 @@ no-grant p q le (Sub x) b = refl
 no-grant p q le (Dis x) b = refl
 no-grant p q le (Take x) b = refl
 
--- a record stands below the producer position
+-- a record lies below the producer position
 pub granted-below : (h : List Entry) (p q : ℕ) → All (NamesBelow p) h → is_granted_at h q ≡ true → q < p
 granted-below h p q b is = elim (cases_lt q p) [
   | inl lt ↦ lt
@@ -56,7 +56,7 @@ module _ (r : Setup) (h : List Entry) (stored : List StoredRecord) (p c : ℕ) (
   exact-empty BusyFront a = (λ e. cc, λ b. absurd (apart a.front.granted_is b))
   exact-empty Empty a = (λ e. a.all_taken, λ b. refl)
 
-  -- no record is there
+  -- there is no record
   pub none-there : length stored ≡ 0 → Takes (ring_with r h stored p c) (ring_with r h stored p c) Empty
   none-there e = record { all_taken = sym k.producer_is ∙ sym (at stored e k.in_row) ∙ k.consumer_is; same = refl }
     where

@@ -1,4 +1,4 @@
--- The record of a reservation is looked for.
+-- The search for the record of a reservation.
 use Rattle.std.proofs.Common.{◌≡◌, ℕ, ◌<◌, true, false, List, map, length, get_or, refl, sym, ap, ◌∙◌, arith, subst}
 use Rattle.std.specs.List.{Contains}
 use Rattle.std.proofs.lemmas.Bool.{and_parts, eqb-true, eq-eqb}
@@ -20,7 +20,7 @@ use Rattle.rb_history.proofs.Taking.{held-state, state-held}
 use Rattle.rb_history.proofs.Contents.{get-map, length-map}
 use Rattle.rb_history.proofs.Standing.{all-named, busy-untaken, in-row, head-status}
 
--- a slot that is busy under the four numbers
+-- a slot that is busy and has the four numbers
 record HasNumbers (v : Granted) (s : StoredRecord) : Type 0 where
   held : s.state ≡ Reserved
   pos_is : s.pos ≡ v.pos
@@ -68,7 +68,7 @@ module _ (r : Setup) (h : List Entry) (stored : List StoredRecord) (p c : ℕ) (
         busy = subst (λ x. status_of h x ≡ Busy) z.pos_is (head-status h (shown_record s) n ∙ ap state_status z.held);
       }
 
-  -- a busy record of these numbers stands in the list
+  -- a busy record with these numbers is in the list
   pub busy-there : IsBusy h v.pos v.worker v.serial (length v.bytes) → (s : StoredRecord) × (Contains stored s × (is_reserved_by v s ≡ true) × (s.pos ≡ v.pos))
   busy-there b =
       let t = busy-untaken r h stored p c k v.pos b.busy in

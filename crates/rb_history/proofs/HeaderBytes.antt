@@ -1,4 +1,4 @@
--- What a header's bytes say of its fields.
+-- A header's bytes determine its fields.
 use Rattle.std.proofs.Common.{◌≡◌, ℕ, ◌+◌, ◌*◌, ◌/◌, ◌%◌, ◌^◌, ◌<◌, ◌&&◌, Bool, true, false, not, cond, eqb, List, [], ◌∷◌, ◌++◌, length, get_or, take, drop, refl, sym, ap, ◌∙◌, arith, bit_and, inl, inr}
 use Rattle.std.proofs.lemmas.List.{get_or-take, get_or-drop}
 use borrow.Rule.Slice.PartMut.{mid_of}
@@ -11,7 +11,7 @@ use Rattle.rb_history.specs.Header.{length_word, header_bytes, HasFields, IsHead
 
 -- ---- numbers and their four bytes
 
--- numbers with the same four bytes are one
+-- numbers with the same four bytes are equal
 pub same_number : (m n : ℕ) → m < 2 ^ 32 → n < 2 ^ 32 → to_le_bytes w32 m ≡ to_le_bytes w32 n → m ≡ n
 same_number m n hm hn e = sym (from_le_bytes-to_le_bytes_4 m hm) ∙ ap (from_le_bytes w32) e ∙ from_le_bytes-to_le_bytes_4 n hn
 
@@ -28,11 +28,11 @@ eight_cells : (bs : List ℕ) → length bs ≡ 8 → get_or bs 0 0 ∷ get_or b
 eight_cells (a ∷ b ∷ c ∷ d ∷ e ∷ f ∷ g ∷ h ∷ []) l = refl
 eight_cells _ l = absurd (omega arith)
 
--- the number that four bytes from place i on spell
+-- the number whose bytes are the four from index i
 abbrev pub number_at : List ℕ → ℕ → ℕ
 number_at bs i = get_or bs i 0 + 256 * (get_or bs (i + 1) 0 + 256 * (get_or bs (i + 2) 0 + 256 * get_or bs (i + 3) 0))
 
--- eight bytes are the four bytes of one number and those of another
+-- eight bytes are the four bytes of one number followed by those of another
 pub two_numbers : (bs : List ℕ) (word page : ℕ) → length bs ≡ 8 → ((i : ℕ) → get_or bs i 0 < 256) → word ≡ number_at bs 0 → page ≡ number_at bs 4 → to_le_bytes w32 word ++ to_le_bytes w32 page ≡ bs
 two_numbers bs word page l fits ew ep =
     let first : to_le_bytes w32 word ≡ get_or bs 0 0 ∷ get_or bs 1 0 ∷ get_or bs 2 0 ∷ get_or bs 3 0 ∷ [] =
@@ -44,7 +44,7 @@ two_numbers bs word page l fits ew ep =
 
 -- ---- the length word and its fields
 
--- the test of one bit of the word
+-- tests one bit of the word
 abbrev pub bit_test : ℕ → ℕ → Bool
 bit_test word mask = not (eqb (bit_and word mask) 0)
 
@@ -54,11 +54,11 @@ bit_set word mask h = rw (ne_eqb (bit_and word mask) 0 h) refl
 pub bit_clear : (word mask : ℕ) → bit_and word mask ≡ 0 → bit_test word mask ≡ false
 bit_clear word mask h = rw (eq-eqb (bit_and word mask) 0 h) refl
 
--- what the code reads out of the two numbers
+-- the header that the code reads from the two numbers
 abbrev pub fields_of : ℕ → ℕ → Header
 fields_of word page = record { len = bit_and word 1073741823; busy = bit_test word 2147483648; discard = bit_test word 1073741824; page = page }
 
--- a bit that is set counts for its worth
+-- a set bit contributes its value
 worth : (word k : ℕ) → cond (bit_test word (2 ^ k)) (2 ^ k) 0 ≡ bit_and word (2 ^ k)
 worth word k = by (eqb (bit_and word (2 ^ k)) 0) refl
   where
@@ -98,7 +98,7 @@ word_fits h f = by h.discard h.busy
     by false true = let l = f.len in omega arith
     by false false = let l = f.len in omega arith
 
--- a length word says the length and both bits
+-- a length word determines the length and both bits
 pub same_fields : (m n : ℕ) (d e b c : Bool) → m < 2 ^ 30 → n < 2 ^ 30 → m + cond d (2 ^ 30) 0 + cond b (2 ^ 31) 0 ≡ n + cond e (2 ^ 30) 0 + cond c (2 ^ 31) 0 → (m ≡ n) × (d ≡ e) × (b ≡ c)
 same_fields m n true true true true hm hn e = (omega arith, refl, refl)
 same_fields m n true true false false hm hn e = (omega arith, refl, refl)
@@ -117,7 +117,7 @@ same_fields m n true false true true hm hn e = absurd (omega arith)
 same_fields m n true true false true hm hn e = absurd (omega arith)
 same_fields m n true true true false hm hn e = absurd (omega arith)
 
--- two texts whose first parts are equally long have the same parts
+-- if two concatenations are equal and their first parts have equal lengths, their parts are equal
 pub halves : (a b c d : List ℕ) → length a ≡ length c → a ++ b ≡ c ++ d → (a ≡ c) × (b ≡ d)
 halves [] b [] d l e = (refl, e)
 halves [] b (y ∷ c) d l e = absurd (omega arith)
@@ -134,7 +134,7 @@ header l b d p = record { len = l; busy = b; discard = d; page = p }
 same_parts : (l m p q : ℕ) (b c d e : Bool) → l ≡ m → b ≡ c → d ≡ e → p ≡ q → header l b d p ≡ header m c e q
 same_parts l m p q b c d e hl hb hd hp = cc
 
--- a header is known by its bytes
+-- a header is determined by its bytes
 pub same_header : (h k : Header) → HasFields h → HasFields k → header_bytes h ≡ header_bytes k → h ≡ k
 same_header h k fh fk e =
     let parts = halves (to_le_bytes w32 (length_word h)) (to_le_bytes w32 h.page) (to_le_bytes w32 (length_word k)) (to_le_bytes w32 k.page) refl e in
@@ -143,9 +143,9 @@ same_header h k fh fk e =
     let fields = same_fields h.len k.len h.discard k.discard h.busy k.busy fh.len fk.len word in
     same_parts h.len k.len h.page k.page h.busy k.busy h.discard k.discard fields.0 fields.2 fields.1 page
 
--- ---- what was read
+-- ---- the header that was read
 
--- the number that stands in the four bytes from place 4 on
+-- the number in the four bytes from index 4
 pub second_number : (bs : List ℕ) → number_at (mid_of 4 4 bs) 0 ≡ number_at bs 4
 second_number bs =
     let at : (i : ℕ) → i < 4 → get_or (take 4 (drop 4 bs)) i 0 ≡ get_or bs (4 + i) 0 = λ i h. get_or-take 4 (drop 4 bs) i 0 h ∙ get_or-drop 4 bs i 0 in
@@ -168,7 +168,7 @@ module _ (bs : List ℕ) (word page : ℕ) (sized : length bs ≡ 8) (fits : (i 
   read_same : (h : Header) → HasFields h → header_bytes h ≡ bs → fields_of word page ≡ h
   read_same h f e = same_header (fields_of word page) h read_fields f (read_bytes ∙ sym e)
 
-  -- where both bits were read, no header has these bytes, and they are a fault
+  -- if both bits are set, no header has these bytes, and they are a fault
   pub no_header : bit_test word 2147483648 ≡ true → bit_test word 1073741824 ≡ true → (h : Header) → IsHeader h → header_bytes h ≡ bs → ⊥
   no_header b d h i e =
       let same = read_same h i.fields e in
@@ -179,7 +179,7 @@ module _ (bs : List ℕ) (word page : ℕ) (sized : length bs ≡ 8) (fits : (i 
   pub both_bits : bit_test word 2147483648 ≡ true → bit_test word 1073741824 ≡ true → HasBothBits bs
   both_bits b d = (fields_of word page, read_fields, b, d, read_bytes)
 
-  -- where not both bits were read, the header was, and no other
+  -- if not both bits are set, the header that was read is the only one with these bytes
   pub read_header : (bit_test word 2147483648 && bit_test word 1073741824) ≡ false → IsHeader (fields_of word page)
   read_header n = record { fields = read_fields; one_bit = n }
 

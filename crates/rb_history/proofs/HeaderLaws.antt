@@ -17,7 +17,7 @@ pub length-payload_of : (item : Item) → length (payload_of item) ≡ item_len 
 length-payload_of (Event position bytes) = refl
 length-payload_of (Skip position len) = length-replicate len 0
 
--- an item has as many bytes as it moves the positions
+-- an item has as many bytes as it advances the positions
 pub length-item_bytes : (size : ℕ) (item : Item) → length (item_bytes size item) ≡ item_span item
 length-item_bytes size item =
     let h = header_bytes (header_of size item) in
@@ -29,13 +29,13 @@ length-item_bytes size item =
     let up : item_len item ≤ 8 * eights (item_len item) = omega arith in
     omega arith
 
--- two texts that begin with the four bytes of a number begin with those of one number
+-- if two sequences that begin with the four bytes of a number are equal, the numbers and the rests are equal
 pub same_first_word : (m n : ℕ) (xs ys : List ℕ) → m < 2 ^ 32 → n < 2 ^ 32 → to_le_bytes w32 m ++ xs ≡ to_le_bytes w32 n ++ ys → (m ≡ n) × (xs ≡ ys)
 same_first_word m n xs ys hm hn e =
     let parts = halves (to_le_bytes w32 m) xs (to_le_bytes w32 n) ys refl e in
     (same_number m n hm hn parts.0, parts.1)
 
--- ---- tapes and items, put together
+-- ---- concatenating tapes and items
 
 pub tape-append : (size : ℕ) (items more : List Item) → tape size (items ++ more) ≡ tape size items ++ tape size more
 tape-append size items more = flat_map-append (item_bytes size) items more
@@ -49,7 +49,7 @@ end_of-cons start item items = let e = sum_by-cons item_span item items in omega
 pub end_of-append : (start : ℕ) (items more : List Item) → end_of start (items ++ more) ≡ end_of (end_of start items) more
 end_of-append start items more = let e = sum_by-append item_span items more in omega arith
 
--- a tape is as long as the way that its items take
+-- the length of a tape is the distance by which its items advance the positions
 pub end_of-tape : (size start : ℕ) (items : List Item) → start + length (tape size items) ≡ end_of start items
 end_of-tape size start [] = omega arith
 end_of-tape size start (item ∷ items) =
@@ -68,9 +68,9 @@ AreItemsFrom-append size start (item ∷ items) more a b =
 pub AreItemsFrom-push : (size start : ℕ) (items : List Item) (item : Item) → AreItemsFrom size start items → IsItemAt size (end_of start items) item → AreItemsFrom size start (items ++ item ∷ [])
 AreItemsFrom-push size start items item a i = AreItemsFrom-append size start items (item ∷ []) a (i, tt)
 
--- ---- one text, one list of items
+-- ---- equal bytes, equal items
 
--- which of two kinds an item is, where and how long, and its bytes, are all there is to it
+-- an item is determined by its kind, its position, its length and its bytes
 same_item : (i j : Item) → item_position i ≡ item_position j → item_len i ≡ item_len j → is_skip i ≡ is_skip j → payload_of i ≡ payload_of j → i ≡ j
 same_item (Event p b) (Event q c) at len kind bytes = cc
 same_item (Event p b) (Skip q m) at len kind bytes = absurd (false≢true kind)
@@ -84,7 +84,7 @@ word_below n false h = omega arith
 regroup : (a b c d : List ℕ) → ((a ++ b) ++ c) ++ d ≡ a ++ (b ++ (c ++ d))
 regroup a b c d = simp append_assoc
 
--- the first item of a text, and what follows it
+-- the first item of a byte sequence, and the rest, are unique
 first_item : (size at : ℕ) (i j : Item) (rest more : List ℕ) → IsItemAt size at i → IsItemAt size at j → item_bytes size i ++ rest ≡ item_bytes size j ++ more → (i ≡ j) × (rest ≡ more)
 first_item size at i j rest more hi hj e =
     let header = λ (x : Item). header_bytes (header_of size x) in
@@ -102,7 +102,7 @@ first_item size at i j rest more hi hj e =
 same_span : (at : ℕ) (i j : Item) → i ≡ j → at + item_span i ≡ at + item_span j
 same_span at i j e = ap (λ x. at + item_span x) e
 
--- a text begins with at most one list of items of a given number
+-- a byte sequence begins with at most one list of a given number of items
 pub unique_tape : (size start : ℕ) (items others : List Item) (rest more : List ℕ) → AreItemsFrom size start items → AreItemsFrom size start others → length items ≡ length others → tape size items ++ rest ≡ tape size others ++ more → items ≡ others
 unique_tape size start [] [] rest more a b n e = refl
 unique_tape size start [] (j ∷ js) rest more a b n e = absurd (omega arith)

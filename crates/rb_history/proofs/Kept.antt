@@ -1,4 +1,4 @@
--- What each entry keeps.
+-- What each entry preserves.
 use Rattle.std.proofs.Common.{◌≡◌, ◌≢◌, ℕ, ◌+◌, ◌<◌, ◌≤◌, Bool, true, false, ◌||◌, List, [], ◌∷◌, ◌++◌, length, map, get_or, set, refl, sym, ap, ◌∙◌, inl, inr, arith, eqb, subst, cond, add-zero}
 use Rattle.std.specs.List.{list_any, sum_by, count_by, filter, All}
 use Rattle.std.proofs.lemmas.Bool.{eq-eqb, ne_eqb, eqb-true, or_cases, or_left, or_right, or_parts, cases_eq, false_from_ne_true}
@@ -75,7 +75,7 @@ below-more p q le (Sub x) b = omega arith
 below-more p q le (Dis x) b = omega arith
 below-more p q le (Take x) b = omega arith
 
--- ---- nothing names a position that is not granted yet
+-- ---- no entry names a position that is not granted yet
 
 not-taken : (p : ℕ) (e : Entry) → NamesBelow p e → is_take p e ≡ false
 not-taken p (Res w s n x) b = refl
@@ -142,9 +142,9 @@ single-push r h (Res w s n x) p m at b old q is = elim (cases_eq x q) [
   | inr other ↦ once-more h (Res w s n x) q (ne_eqb x q other) (old q) is
 ]
 
--- ---- as many records are discarded as entries say so
+-- ---- the number of discarded records is the number of discard entries
 
--- the record that the entry grants was discarded
+-- 1 if the record that the entry grants was discarded
 gone : List Entry → Entry → ℕ
 gone h (Res w s n q) = cond (is_discarded_at h q) 1 0
 gone h _ = 0
@@ -252,7 +252,7 @@ kept-push r h e ss ts p q c d k m is_ts is_q is_d row le nb on past = record {
   given_up = given_up-push r h e p m k.producer_is k.below k.single k.given_up;
 }
 
--- ---- the five kinds
+-- ---- the five kinds of entries
 
 pub kept-full : (r : Setup) (h : List Entry) (ss : List Shown) (p c w n : ℕ) → HistoryFacts r h ss p c → w < r.workers → ¬ HasRoomFor r h n →
     HistoryFacts r (h ++ Full w n ∷ []) ss p c

@@ -13,11 +13,11 @@ use Rattle.rb_history.proofs.Steps.{Named, shown-contains}
 use Rattle.rb_history.proofs.Kept.{kept-full, kept-res, kept-sub, kept-dis, kept-take, named-at}
 use Rattle.rb_history.proofs.Standing.{grant-stands}
 
--- a part of a legal history that it begins with is legal
+-- a prefix of a legal history is legal
 pub legal-front : (r : Setup) (h t : List Entry) → IsLegal r (h ++ t) → IsLegal r h
 legal-front r h t l = record { each = λ before e after is. l.each before e (after ++ t) (ap (λ x. x ++ t) is ∙ append_assoc before (e ∷ after) t) }
 
--- the entry behind a part of a legal history may follow it
+-- the entry after a prefix of a legal history may follow it
 pub legal-next : (r : Setup) (h : List Entry) (e : Entry) (t : List Entry) → IsLegal r (h ++ e ∷ t) → MayFollow r h e
 legal-next r h e t l = l.each h e t refl
 
@@ -98,6 +98,6 @@ kept-rest r h (e ∷ t) k l =
     let same : (h ++ e ∷ []) ++ t ≡ h ++ e ∷ t = append_assoc h (e ∷ []) t in
     subst (KeptAs r) same (kept-rest r (h ++ e ∷ []) t (kept-next r h e k (legal-next r h e t l)) (subst (IsLegal r) (sym same) l))
 
--- all that the ring keeps follows from legality
+-- all invariants of the ring follow from legality
 pub kept-from-legal : (r : Setup) (h : List Entry) → IsLegal r h → KeptAs r h
 kept-from-legal r h l = kept-rest r [] h (kept-none r) l

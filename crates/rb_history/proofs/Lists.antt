@@ -61,7 +61,7 @@ not_nil : {X : Type 0} (bs : List X) (x : X) (cs : List X) → [] ≡ bs ++ x �
 not_nil [] x cs e = cc
 not_nil (b ∷ bs) x cs e = cc
 
--- an entry of a list with one more is the last, or stood there before
+-- an entry of a list with one element appended is that element, or was in the list before
 pub snoc_cases : {X : Type 0} (h : List X) (e : X) (bs : List X) (x : X) (cs : List X) → h ++ e ∷ [] ≡ bs ++ x ∷ cs →
     ((bs ≡ h) × (x ≡ e)) ⊎ ((ds : List X) × (h ≡ bs ++ x ∷ ds))
 snoc_cases [] e [] x cs is = inl (refl, cc)
@@ -83,7 +83,7 @@ pub sum_by-cons_option : {X : Type 0} (f : X → ℕ) (o : Option X) (xs : List 
 sum_by-cons_option f None xs = sym (zero-add _)
 sum_by-cons_option f (Some x) xs = sum_by-cons f x xs
 
--- a sum that grows at each element by what another list has of it
+-- a sum whose term exceeds another sum's term by what a filtered list contributes
 pub sum_by-filter_map : {X Y : Type 0} (f g : X → ℕ) (u : X → Option Y) (t : Y → ℕ) → ((x : X) → g x ≡ f x + opt_sum t (u x)) →
     (xs : List X) → sum_by g xs ≡ sum_by f xs + sum_by t (filter_map u xs)
 sum_by-filter_map f g u t more [] = refl

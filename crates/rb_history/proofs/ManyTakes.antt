@@ -1,4 +1,4 @@
--- One take more.
+-- One more take.
 use Rattle.std.proofs.Common.{◌≡◌, ◌≢◌, ℕ, ◌<◌, inl, inr, arith, List, [], ◌∷◌, ◌++◌, length, refl, sym, ap, ◌∙◌, subst, append_assoc, append-nil}
 use Rattle.std.proofs.lemmas.List.Prefix.{front_rest}
 use Rattle.rb_history.specs.declared.answers.Taken.{Taken}
@@ -17,7 +17,7 @@ has-record (Skipped p n) busy empty = tt
 has-record BusyFront busy empty = busy refl
 has-record Empty busy empty = empty refl
 
--- ---- where it ends
+-- ---- the end of the sequence
 
 pub stops-busy : (n : ℕ) (old mid new : Ring) (ts : List Taken) → TakesEach old ts mid → length ts < n → Takes mid new BusyFront → TakesMany n ts old new
 stops-busy n old mid new ts each less found = record {
@@ -36,9 +36,9 @@ stops-empty n old mid new ts each less found = record {
 pub takes-all : (n : ℕ) (old new : Ring) (ts : List Taken) → TakesEach old ts new → n ≡ length ts → TakesMany n ts old new
 takes-all n old new ts each all = record { each = each; within = omega arith; stops = λ less. absurd (omega arith) }
 
--- ---- what was pushed
+-- ---- the items that were pushed
 
--- what was pushed is known from the whole
+-- the items that were pushed are determined by the whole list
 pub pushed-are : (before after ts : List Taken) → after ≡ before ++ ts → pushed before after ≡ ts
 pushed-are before after ts e = front_rest after before ts e
 

@@ -1,4 +1,4 @@
--- Each legal history that is one entry longer is one call's step.
+-- Every legal history that extends a ring's history by one entry is the result of one call.
 use Rattle.std.proofs.Common.{◌≡◌, ◌≢◌, ℕ, Bool, true, false, ◌||◌, List, [], ◌∷◌, ◌++◌, Option, Some, None, length, replicate, refl, sym, ap, ◌∙◌, inl, inr, arith, subst, eqb, is_some, ◌↔◌}
 use Rattle.std.specs.List.{Contains}
 use Rattle.std.specs.Cmp.{nat_cmp_total}
@@ -19,11 +19,11 @@ use Rattle.rb_history.proofs.Contents.{hit-yes, hit-no}
 use Rattle.rb_history.proofs.Standing.{grant-stands}
 use Rattle.rb_history.proofs.Laws.{KeptAs, legal-front, legal-next, kept-from-legal}
 
--- the ring with these contents that stands for a history
+-- the ring with this history and these contents
 ring_for : Setup → List Entry → Contents → Ring
 ring_for r h m = record { setup = r; history = h; contents = m; shown = records h; producer = producer_of r.start h; consumer = consumer_of r.start h }
 
--- the contents of a longer history
+-- the new contents match the extended history
 record Holds (h k : List Entry) (m m' : Contents) : Type 0 where
   same_or : (q : ℕ) → (is_some (get m' q) ≡ true) ↔ (status_of k q ≡ Waiting)
   sized : (q : ℕ) (bytes : List ℕ) → get m' q ≡ Some bytes → HasLength k q (length bytes)
@@ -35,7 +35,7 @@ stands-for r h k m m' a = record { shown = refl; producer_is = refl; consumer_is
 longer : (h : List Entry) (e : Entry) (q n : ℕ) → HasLength h q n → HasLength (h ++ e ∷ []) q n
 longer h e q n a = (a.0, (a.1.0, Contains-append_left h (e ∷ []) _ a.1.1))
 
--- the status of a record after one entry more
+-- the status of a record after one more entry
 after : (h : List Entry) (e : Entry) (q : ℕ) → status_of (h ++ e ∷ []) q ≡ status_by (is_submitted_at h q || is_submit q e) (is_discarded_at h q || is_discard q e) (is_taken_at h q || is_take q e)
 after h e q = rw (list_any-snoc (is_submit q) h e, list_any-snoc (is_discard q) h e, list_any-snoc (is_take q) h e)
 
@@ -43,14 +43,14 @@ quiet : (h : List Entry) (e : Entry) (q : ℕ) → is_submit q e ≡ false → i
 quiet h e q s d t = after h e q ∙ rw (s, d, t, or-false (is_submitted_at h q), or-false (is_discarded_at h q), or-false (is_taken_at h q))
 
 module _ (old : Ring) (a : StandsFor old) where
-  -- an entry that changes no record leaves the contents
+  -- an entry that changes no record leaves the contents unchanged
   holds-quiet : (e : Entry) → ((q : ℕ) → status_of (old.history ++ e ∷ []) q ≡ status_of old.history q) → Holds old.history (old.history ++ e ∷ []) old.contents old.contents
   holds-quiet e same = record {
     same_or = λ q. (λ is. same q ∙ (a.contents q).0 is, λ w. (a.contents q).1 (sym (same q) ∙ w));
     sized = λ q bytes is. longer old.history e q (length bytes) (a.sized q bytes is);
   }
 
-  -- the record at p had no bytes and has none, and the other records stay
+  -- the record at p neither had bytes nor gets any, and the other records do not change
   holds-still : (e : Entry) (p : ℕ) → (status_of old.history p ≡ Waiting → ⊥) → (status_of (old.history ++ e ∷ []) p ≡ Waiting → ⊥) →
       ((q : ℕ) → q ≢ p → status_of (old.history ++ e ∷ []) q ≡ status_of old.history q) → Holds old.history (old.history ++ e ∷ []) old.contents old.contents
   holds-still e p before now others = record {

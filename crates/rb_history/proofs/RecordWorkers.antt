@@ -1,4 +1,4 @@
--- Whose a record is: one worker's alone, from its grant on.
+-- The worker of a record: exactly one, from its grant on.
 use Rattle.std.proofs.Common.{◌≡◌, ℕ, ◌≤◌, ◌==◌, ◌||◌, Bool, true, false, cond, List, [], ◌∷◌, ◌++◌, inl, inr, refl, sym, ap, ◌∙◌, arith}
 use Rattle.std.specs.List.{list_any, count_by, Contains}
 use Rattle.std.proofs.lemmas.Bool.{cases_Bool, cases_eq, ne_eqb, true≢false, eqb-true, eq-eqb, and_parts, and_from, or_cases, or_left, or_right, or_parts, false_from_ne_true}
@@ -116,7 +116,7 @@ module _ (r : Setup) where
       or-none true = refl
       or-none false = refl
 
--- ---- entries that stand in a history
+-- ---- entries of a history
 
 pub submitted-from : (h : List Entry) (p : ℕ) → Contains h (Sub p) → is_submitted_at h p ≡ true
 submitted-from h p is = list_any_at (is_submit p) h is.0 (Sub p) is.1 (ap (is_submit p) is.2 ∙ eq-eqb p p refl)
@@ -130,7 +130,7 @@ taken-from h p is = list_any_at (is_take p) h is.0 (Take p) is.1 (ap (is_take p)
 pub record-from : (h : List Entry) (w k n p : ℕ) → Contains h (Res w k n p) → is_record_of w h p ≡ true
 record-from h w k n p is = list_any_at (is_grant_to w p) h is.0 (Res w k n p) is.1 (ap (is_grant_to w p) is.2 ∙ and_from (w == w) (p == p) (eq-eqb w w refl) (eq-eqb p p refl))
 
--- the grant that stands there says whose the record is
+-- the grant in a history determines the record's worker
 pub grant-tells : (h : List Entry) (w k n p worker : ℕ) → Contains h (Res w k n p) → count_by (is_grant_at p) h ≤ 1 → (w == worker) ≡ is_record_of worker h p
 grant-tells h w k n p worker is one =
     let his = record-from h w k n p is in

@@ -1,4 +1,4 @@
--- Records that stand one behind the other.
+-- Records that lie one after the other.
 use Rattle.std.proofs.Common.{◌≡◌, ◌≢◌, map, ℕ, ◌+◌, ◌<◌, ◌≤◌, List, [], ◌∷◌, ◌++◌, length, get_or, set, refl, ap, ◌∙◌, zero, suc, ◌*◌, arith}
 use Rattle.std.specs.List.{sum_by, filter}
 use Rattle.std.proofs.lemmas.Bool.{eq-eqb, ne_eqb}
@@ -16,13 +16,13 @@ pub InRow-push : (c : ℕ) (ss : List Shown) (s : Shown) (p : ℕ) → InRow c s
 InRow-push c [] s p h e = let there : s.pos ≡ c = omega (arith, h, e) in (there, ap (λ x. x + span s.len) h)
 InRow-push c (t ∷ ss) s p h e = (h.0, InRow-push (c + span t.len) ss s p h.1 e)
 
--- a change of a record that leaves its state and length
+-- a change of a record that leaves its position and length
 pub InRow-set : (c : ℕ) (ss : List Shown) (p i : ℕ) (s : Shown) → InRow c ss p → i < length ss → s.pos ≡ (get_or ss i s).pos → s.len ≡ (get_or ss i s).len → InRow c (set ss i s) p
 InRow-set c [] p i s h l e f = absurd (omega arith)
 InRow-set c (t ∷ ss) p zero s h l e f = (e ∙ h.0, rw f h.1)
 InRow-set c (t ∷ ss) p (suc i) s h l e f = (h.0, InRow-set (c + span t.len) ss p i s h.1 (omega arith) e f)
 
--- ---- records that stand beyond a position
+-- ---- records that lie beyond a position
 
 pub map-beyond : (q : ℕ) (st : Status) (c : ℕ) (ss : List Shown) (p : ℕ) → q < c → InRow c ss p → map (mark q st) ss ≡ ss
 map-beyond q st c [] p lt h = refl
@@ -90,7 +90,7 @@ get_or-default [] i d e l = absurd (omega arith)
 get_or-default (x ∷ xs) zero d e l = refl
 get_or-default (x ∷ xs) (suc i) d e l = get_or-default xs i d e (omega arith)
 
--- each record of a row takes eight bytes at least
+-- each record of a row occupies at least eight bytes
 pub InRow-few : (c : ℕ) (ss : List Shown) (p : ℕ) → InRow c ss p → c + 8 * length ss ≤ p
 InRow-few c [] p h = omega arith
 InRow-few c (s ∷ ss) p h = omega (arith, InRow-few (c + span s.len) ss p h.1)

@@ -48,7 +48,7 @@ serials-rest r w h (e ∷ t) old l =
 pub serials-ordered : (r : Setup) (w : ℕ) (h : List Entry) → IsLegal r h → serials_of w h ≡ numbers_below (grants w h)
 serials-ordered r w h l = serials-rest r w [] h refl l
 
--- a record's worker is one of the ring's
+-- a record's worker is one of the ring's workers
 granted-in : (r : Setup) (w k n p : ℕ) (b es : List Entry) → IsLegal r (b ++ es) → Contains es (Res w k n p) → w < r.workers
 granted-in r w k n p b [] l is = absurd (omega (arith, is.1))
 granted-in r w k n p b (e ∷ es) l is = elim (Contains-append_cases (e ∷ []) es (Res w k n p) is) [

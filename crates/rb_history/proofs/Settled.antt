@@ -1,4 +1,4 @@
--- Each record is submitted or discarded once at most, and only once it was granted.
+-- Each record is submitted or discarded at most once, and only after it was granted.
 use Rattle.std.proofs.Common.{◌≡◌, ℕ, ◌+◌, ◌≤◌, ◌==◌, ◌&&◌, ◌||◌, Bool, true, false, List, [], ◌∷◌, ◌++◌, inl, inr, refl, sym, ap, ◌∙◌, subst, append_assoc, append-nil, add-zero, zero-add, arith}
 use Rattle.std.specs.List.{count_by, Contains}
 use Rattle.std.proofs.lemmas.Bool.{cases_Bool, cases_eq, eq-eqb, ne_eqb, or_from, false_from_ne_true}
@@ -47,7 +47,7 @@ and-no false = refl
 settled-snoc : (h : List Entry) (e : Entry) (q : ℕ) → settled (h ++ e ∷ []) q ≡ (settled h q || settles_at q e)
 settled-snoc h e q = (λ i. list_any-snoc (is_submit q) h e i || list_any-snoc (is_discard q) h e i) ∙ swap (is_submitted_at h q) (is_discarded_at h q) (is_submit q e) (is_discard q e)
 
--- the entry does not count in the one history what counted not in the other
+-- the entry counts equally in both histories
 module _ (f : ℕ → Bool) (h k : List Entry) where
   same-where : ((q : ℕ) → settled k q ≡ settled h q) → (y : Entry) → bit (grants_where (settled_where f k) y) ≡ bit (grants_where (settled_where f h) y)
   same-where a (Res w s n q) = ap (λ b. bit (f q && b)) (a q)
@@ -83,7 +83,7 @@ module _ (f : ℕ → Bool) (h k : List Entry) where
     none-where miss (Dis q) = refl
     none-where miss (Take q) = refl
 
--- as many entries settle such records as records that were granted are settled
+-- the number of entries that settle such records is the number of granted records that are settled
 abbrev IsEven : (ℕ → Bool) → List Entry → Type 0
 IsEven f h = count_by (settles_where f) h ≡ count_by (grants_where (settled_where f h)) h
 
@@ -165,7 +165,7 @@ even r f h l = even-rest r f [] h refl l
 
 -- ---- one worker
 
--- where one test passes no more than another
+-- if one test passes no entry that the other rejects, it counts at most as many
 count-most : (t u : Entry → Bool) (es : List Entry) → ((x : Entry) → Contains es x → bit (t x) ≤ bit (u x)) → count_by t es ≤ count_by u es
 count-most t u [] less = omega arith
 count-most t u (x ∷ es) less =

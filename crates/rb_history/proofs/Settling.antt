@@ -23,7 +23,7 @@ use Rattle.rb_history.proofs.Taking.{state-held}
 use Rattle.rb_history.proofs.Kept.{kept-res, kept-sub, kept-dis}
 use Rattle.rb_history.proofs.Contents.{contents-set, contents-unset, get-map, length-map}
 
--- the entries that the records of a list still wait for
+-- the number of entries that the records of a list will still log
 abbrev pub owed_by : List StoredRecord → ℕ
 owed_by stored = sum_by (λ s. entries_owed (state_status s.state)) stored
 
@@ -118,12 +118,12 @@ module _ (r : Setup) (h : List Entry) (stored : List StoredRecord) (i : ℕ) (t 
   pub contents-drop : contents_of (set stored i (record t { state = DiscardedState })) ≡ contents_of stored
   contents-drop = contents-unset stored i (record t { state = DiscardedState }) b.within refl (old-bytes (record t { state = DiscardedState }))
 
--- what a call that did not fail ensures
+-- what a call ensures if it did not fail
 pub on-ok : {T E : Type 0} (r : Result T E) (P : Type 0) (b : Bool) → b ≡ false → b ≡ is_err r → OnOk r P → P
 on-ok (Ok x) P b f e p = p
 on-ok (Err x) P b f e p = absurd (true≢false (sym e ∙ f))
 
--- a record that is there owes an entry
+-- if there is a record, it owes an entry
 pub owed-some : (stored : List StoredRecord) → 0 < length stored → 1 ≤ owed_by stored
 owed-some [] l = absurd (omega arith)
 owed-some (t ∷ stored) l = omega (arith, sum_by-cons (λ (s : StoredRecord). entries_owed (state_status s.state)) t stored, some t.state)

@@ -41,7 +41,7 @@ waiting-parts true false true e = cc
 waiting-parts true false false e = (refl, refl, refl)
 waiting-parts false false t e = cc
 
--- who was granted the record at a position
+-- the grant of the record at a position is an entry of the history
 pub grant-stands : (h : List Entry) (q : ℕ) → is_granted_at h q ≡ true → (w : ℕ) × ((s : ℕ) × ((n : ℕ) × Contains h (Res w s n q)))
 grant-stands [] q is = cc
 grant-stands (e ∷ h) q is = elim (or_cases (is_grant_at q e) (is_granted_at h q) is) [
@@ -86,7 +86,7 @@ module _ (r : Setup) (h : List Entry) (stored : List StoredRecord) (p c : ℕ) (
       clash true false false e o = cc
       clash false false t e o = cc
 
-  -- a record that was granted and not taken stands in the row
+  -- a record that was granted and not taken is in the row
   pub in-row : (w s n q : ℕ) → is_taken_at h q ≡ false → Contains h (Res w s n q) →
       Contains (map shown_record stored) (record { pos = q; len = n; worker = w; serial = s; status = status_by (is_submitted_at h q) (is_discarded_at h q) false })
   in-row w s n q t is = rw k.shown (shown-contains h h w s n q t is)

@@ -1,4 +1,4 @@
--- What one more entry changes in what a history says.
+-- What one more entry changes in the facts about a history.
 use Rattle.std.proofs.Common.{◌≡◌, ◌≢◌, ℕ, ◌+◌, ◌==◌, Bool, true, false, cond, not, ◌||◌, List, [], ◌∷◌, ◌++◌, Option, Some, None, map, refl, sym, ap, ◌∙◌, inl, inr, arith, append-nil, eqb, zero, suc}
 use Rattle.std.specs.List.{sum_by, filter_map, filter, cons_option, All, Contains}
 use Rattle.std.proofs.lemmas.List.Elements.{filter_map-append}
@@ -11,14 +11,14 @@ use Rattle.rb_history.specs.History.{Shown, Status, status_by, status_of, is_sub
 use Rattle.rb_history.specs.History.Status.{Busy, Waiting, Discarded}
 use Rattle.rb_history.proofs.Lists.{option_map, option_filter, or-false, list_any-snoc, sum_by-snoc, sum_by-cons, sum_by-agree, opt_sum, sum_by-only, filter_map-agree, filter_map-map, filter_map-filter}
 
--- the record at p has this status now
+-- sets the status of the record at p
 abbrev pub mark : ℕ → Status → Shown → Shown
 mark p st s = cond (s.pos == p) (record s { status = st }) s
 
 abbrev pub elsewhere : ℕ → Shown → Bool
 elsewhere p s = not (s.pos == p)
 
--- two histories that say the same of every record
+-- two histories that agree on every record
 pub record Alike (h k : List Entry) : Type 0 where
   pub taken_same : (q : ℕ) → is_taken_at k q ≡ is_taken_at h q
   pub submitted_same : (q : ℕ) → is_submitted_at k q ≡ is_submitted_at h q
@@ -31,7 +31,7 @@ untaken-alike h k a (Sub q) = refl
 untaken-alike h k a (Dis q) = refl
 untaken-alike h k a (Take q) = refl
 
--- ---- an entry that refuses
+-- ---- a refusal
 
 full-alike : (h : List Entry) (w n : ℕ) → Alike h (h ++ Full w n ∷ [])
 full-alike h w n = record {
@@ -71,7 +71,7 @@ records-res h w s n p t u d =
 pub producer-res : (start : ℕ) (h : List Entry) (w s n p : ℕ) → producer_of start (h ++ Res w s n p ∷ []) ≡ producer_of start h + span n
 producer-res start h w s n p = omega (arith, sum_by-snoc granted_span h (Res w s n p))
 
--- ---- an entry that settles a record
+-- ---- a commit
 
 marked : (w s n q p : ℕ) (st : Status) (tk th sk sh dk dh : Bool) → tk ≡ th →
     (q ≡ p → status_by sk dk false ≡ st) → (q ≢ p → status_by sk dk false ≡ status_by sh dh false) →
@@ -153,7 +153,7 @@ producer-sub start h p = omega (arith, sum_by-snoc granted_span h (Sub p))
 pub producer-dis : (start : ℕ) (h : List Entry) (p : ℕ) → producer_of start (h ++ Dis p ∷ []) ≡ producer_of start h
 producer-dis start h p = omega (arith, sum_by-snoc granted_span h (Dis p))
 
--- ---- an entry that takes a record
+-- ---- a take
 
 dropped : (w s n q p : ℕ) (tk th sk sh dk dh : Bool) → tk ≡ (th || eqb p q) → sk ≡ sh → dk ≡ dh →
     ◌≡◌ {A = Option Shown} (cond tk None (Some (record { pos = q; len = n; worker = w; serial = s; status = status_by sk dk tk })))
@@ -202,7 +202,7 @@ spans-alike h e none (Sub q) = refl
 spans-alike h e none (Dis q) = refl
 spans-alike h e none (Take q) = omega (arith, sum_by-snoc (granted_span_at q) h e, none q)
 
--- an entry that neither grants nor takes leaves it
+-- an entry that neither grants nor takes leaves the consumer position unchanged
 consumer-alike : (start : ℕ) (h : List Entry) (e : Entry) → ((p : ℕ) → granted_span_at p e ≡ 0) → taken_span (h ++ e ∷ []) e ≡ 0 →
     consumer_of start (h ++ e ∷ []) ≡ consumer_of start h
 consumer-alike start h e none still =
@@ -234,13 +234,13 @@ untaken-spans h (e ∷ es) w s n p t =
     let parts = or_parts (is_take p e) (is_taken_at es p) t in
     omega (arith, sum_by-cons (taken_span h) e es, sum_by-cons (taken_span k) e es, untaken-span h w s n p e parts.0, untaken-spans h es w s n p parts.1)
 
--- a record at a position that no entry takes leaves it
+-- a grant at a position that no entry takes leaves it unchanged
 pub consumer-res : (start : ℕ) (h : List Entry) (w s n p : ℕ) → is_taken_at h p ≡ false → consumer_of start (h ++ Res w s n p ∷ []) ≡ consumer_of start h
 consumer-res start h w s n p t =
     let k = h ++ Res w s n p ∷ [] in
     omega (arith, sum_by-snoc (taken_span k) h (Res w s n p), untaken-spans h h w s n p t)
 
--- what the record at p takes, as it is shown
+-- the span of a shown record if it is at p, otherwise 0
 abbrev pub shown_span : ℕ → Shown → ℕ
 shown_span p s = cond (s.pos == p) (span s.len) 0
 
@@ -259,7 +259,7 @@ span-shown h p t (Sub q) = refl
 span-shown h p t (Dis q) = refl
 span-shown h p t (Take q) = refl
 
--- a take of a record that is there moves it by the record's span
+-- a take of a record that was not taken before advances it by the record's span
 pub consumer-take : (start : ℕ) (h : List Entry) (p : ℕ) → is_taken_at h p ≡ false →
     consumer_of start (h ++ Take p ∷ []) ≡ consumer_of start h + sum_by (shown_span p) (records h)
 consumer-take start h p t =
@@ -272,7 +272,7 @@ consumer-take start h p t =
       sum_by-only (granted_span_at p) (untaken h) (shown_span p) (span-shown h p t) h,
     )
 
--- ---- what a record that is shown says of its history
+-- ---- what a shown record says about its history
 
 pub record Named (h es : List Entry) (s : Shown) : Type 0 where
   pub granted_is : is_granted_at es s.pos ≡ true

@@ -1,4 +1,4 @@
--- What a take changes in the consumer's numbers.
+-- What a take changes in the consumer's counts.
 use Rattle.std.proofs.Common.{◌≡◌, ℕ, zero, suc, ◌+◌, ◌≤◌, ◌||◌, Bool, true, false, cond, List, [], ◌∷◌, ◌++◌, inl, inr, refl, sym, ap, ◌∙◌, subst, append_assoc, append-nil, arith}
 use Rattle.std.specs.List.{count_by, Contains}
 use Rattle.std.proofs.lemmas.Bool.{cases_Bool, cases_eq, true≢false, eq-eqb, ne_eqb, or_parts}
@@ -15,7 +15,7 @@ use Rattle.rb_history.proofs.Lists.{list_any-snoc, or-false, sum_by-cons, sum_by
 use Rattle.rb_history.proofs.Exact.{granted-from}
 use Rattle.rb_history.proofs.RecordWorkers.{bit}
 
--- ---- how far the consumer position moves
+-- ---- how far the consumer position advances
 
 span-stays : (h : List Entry) (p : ℕ) (x : Entry) → taken_span (h ++ Take p ∷ []) x ≡ taken_span h x
 span-stays h p (Take q) = sum_by-snoc (granted_span_at q) h (Take p) ∙ omega arith
@@ -59,7 +59,7 @@ some-granted p (x ∷ h) e = elim (cases_Bool (is_grant_at p x)) [
       omega (arith, sum_by-cons (λ y. bit (is_grant_at p y)) x h, none, more)
 ]
 
--- the span of a record is that of the length that it was granted with
+-- the span of a record is that of the length with which it was granted
 pub span-of : (w k n p : ℕ) (h : List Entry) → count_by (is_grant_at p) h ≤ 1 → Contains h (Res w k n p) → span_of_record h p ≡ span n
 span-of w k n p [] one is = absurd (omega (arith, is.1))
 span-of w k n p (x ∷ h) one is =
@@ -88,7 +88,7 @@ span-of w k n p (x ∷ h) one is =
       | inr off ↦ off
     ]
 
--- a take of a record moves the consumer position by its span
+-- a take of a record advances the consumer position by its span
 pub position-taken : (start w k n p : ℕ) (h : List Entry) → count_by (is_grant_at p) h ≤ 1 → Contains h (Res w k n p) → consumer_of start (h ++ Take p ∷ []) ≡ consumer_of start h + span n
 position-taken start w k n p h one is = consumer-moves start h p ∙ ap (λ x. consumer_of start h + x) (span-of w k n p h one is)
 
@@ -123,7 +123,7 @@ both-rest r h (e ∷ t) never l =
 pub never-both : (r : Setup) (h : List Entry) → IsLegal r h → NeverBoth h
 never-both r h l = both-rest r [] h (λ p is. absurd (true≢false (sym is))) l
 
--- ---- what a status says
+-- ---- the meaning of a status
 
 pub waiting-submitted : (s d t : Bool) → status_by s d t ≡ Waiting → (s ≡ true) × (d ≡ false)
 waiting-submitted true true t e = absurd (cc)

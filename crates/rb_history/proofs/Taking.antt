@@ -79,7 +79,7 @@ module _ (r : Setup) (h : List Entry) (after : List StoredRecord) (p c : ℕ) wh
         contents_same = refl;
       }
 
--- how the call leaves the fields
+-- the fields after the call
 pub record Taking (h : List Entry) (stored after : List StoredRecord) (t : StoredRecord) (c : ℕ) (h' : List Entry) (c' : ℕ) : Type 0 where
   pub split : stored ≡ t ∷ after
   pub history_is : h' ≡ h ++ Take t.pos ∷ []
@@ -101,7 +101,7 @@ module _ (r : Setup) (h : List Entry) (stored after : List StoredRecord) (t : St
   pub sized-front : All IsSized stored → All IsSized after
   sized-front sized = All-tail IsSized t after (rw a.split at sized)
 
-  -- a record that is no longer busy owed its take alone
+  -- a record that is no longer busy owed only its take
   pub owed-front : sum_by (λ s. entries_owed (state_status s.state)) after + 1 ≡ sum_by (λ s. entries_owed (state_status s.state)) stored
   owed-front = rw a.split (omega (arith, sum_by-cons (λ s. entries_owed (state_status s.state)) t after, one t.state a.free))
     where

@@ -1,4 +1,4 @@
--- The numbers of records that a ring's body keeps for its workers.
+-- The numbers of granted records that an implementation keeps for its workers.
 use Rattle.std.proofs.Common.{◌≡◌, ℕ, zero, suc, ◌+◌, ◌*◌, ◌<◌, ◌≤◌, Bool, true, false, cond, eqb, List, [], ◌∷◌, ◌++◌, get_or, set, replicate, refl, sym, ap, ◌∙◌, inl, inr, arith}
 use Rattle.std.specs.List.{sum_by}
 use Rattle.std.proofs.lemmas.Bool.{cases_eq, eq-eqb, ne_eqb}
@@ -41,11 +41,11 @@ get-zeros zero w = refl
 get-zeros (suc k) zero = refl
 get-zeros (suc k) (suc w) = get-zeros k w
 
--- no worker was granted anything
+-- no worker was granted a record
 pub tally-none : (k : ℕ) → CountsGrants (replicate {A = ℕ} k 0) [] k
 tally-none k = record { all = length-replicate k 0; each = λ w l. get-zeros k w }
 
--- each record takes eight bytes at least
+-- each record occupies at least eight bytes
 pub grants-low : (w : ℕ) (h : List Entry) → 8 * grants w h ≤ sum_by granted_span h
 grants-low w [] = omega arith
 grants-low w (e ∷ h) = omega (arith, grants-low w h, one e, sum_by-cons granted_span e h, sum_by-cons (λ y. bit (is_grant_of w y)) e h)

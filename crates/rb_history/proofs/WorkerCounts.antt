@@ -1,4 +1,4 @@
--- What one more entry changes in a worker's numbers and in the consumer's.
+-- What one more entry changes in a worker's counts and in the consumer's.
 use Rattle.std.proofs.Common.{◌≡◌, ℕ, ◌+◌, ◌<◌, ◌≤◌, ◌^◌, ◌||◌, Bool, true, false, List, [], ◌∷◌, ◌++◌, length, take, drop, get_or, refl, sym, ap, ◌∙◌, subst, append_assoc, append-nil, add-zero, arith}
 use Rattle.std.specs.List.{count_by, Contains}
 use Rattle.std.proofs.lemmas.Bool.{true≢false, eq-eqb, ne_eqb, or_left, or_right, false_from_ne_true}
@@ -109,7 +109,7 @@ module _ (r : Setup) where
     discarded = count_by (is_discard_of w h) h + bit (mine i);
   })
 
-  -- ---- the consumer's numbers
+  -- ---- the consumer's counts
 
   -- a record that was taken was settled before
   taken-settled : (h : List Entry) (p : ℕ) → IsLegal r h → is_taken_at h p ≡ true → (is_submitted_at h p || is_discarded_at h p) ≡ true
@@ -120,7 +120,7 @@ module _ (r : Setup) where
   unsettled false true s_off d_off is = true≢false d_off
   unsettled false false s_off d_off is = true≢false (sym is)
 
-  -- where p is settled, no entry submits it again
+  -- if p is settled, no entry submits it again
   submit-off : (h : List Entry) (e : Entry) (p : ℕ) → MayFollow r h e → (is_submitted_at h p || is_discarded_at h p) ≡ true → is_submit p e ≡ false
   submit-off h (Sub q) p m settled = ne_eqb q p (λ same. unsettled (is_submitted_at h p) (is_discarded_at h p) (ap (is_submitted_at h) (sym same) ∙ m.1) (ap (is_discarded_at h) (sym same) ∙ m.2) settled)
   submit-off h (Res v k n q) p m settled = refl
@@ -135,7 +135,7 @@ module _ (r : Setup) where
   discard-off h (Sub q) p m settled = refl
   discard-off h (Take q) p m settled = refl
 
-  -- a settled record stays as it is
+  -- a settled record remains settled
   pub submitted-stays : (h : List Entry) (e : Entry) (p : ℕ) → MayFollow r h e → (is_submitted_at h p || is_discarded_at h p) ≡ true → is_submitted_at (h ++ e ∷ []) p ≡ is_submitted_at h p
   submitted-stays h e p m settled = list_any-snoc (is_submit p) h e ∙ ap (λ b. is_submitted_at h p || b) (submit-off h e p m settled) ∙ or-false (is_submitted_at h p)
 
@@ -182,7 +182,7 @@ module _ (r : Setup) where
       let m = legal-next r h e [] l in
       sum_by-snoc (λ y. bit (is_take_where (is_discarded_at k) y)) h e ∙ (λ i. count-agree (is_take_where (is_discarded_at k)) (is_take_where (is_discarded_at h)) h (skips-agree h e (legal-front r h (e ∷ []) l) m) i + bit (skip-here h e m i))
 
-  -- ---- the numbers of a part
+  -- ---- the counts of a part
 
   pub part-legal : (h : List Entry) (i : ℕ) → IsLegal r h → IsLegal r (take i h)
   part-legal h i l = legal-front r (take i h) (drop i h) (subst (IsLegal r) (sym (take-append-drop i h)) l)
@@ -195,7 +195,7 @@ module _ (r : Setup) where
       let more : take (i + 1) h ≡ take i h ++ get_or h i e ∷ [] = take_more h i e low in
       sym (ap (tally_of w) more ∙ tally-next w (take i h) (get_or h i e) (subst (IsLegal r) more (part-legal h (i + 1) l)))
 
--- each number of a history is at most its length
+-- each count of a history is at most its length
 pub countable : (w : ℕ) (h : List Entry) → length h < 2 ^ 64 → IsCountable (tally_of w h)
 countable w h short = record {
   made_fits = omega (arith, count_by-le-length (is_grant_of w) h);

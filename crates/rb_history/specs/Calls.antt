@@ -1,4 +1,4 @@
--- What each call of a ring needs, adds to its history and changes of its contents.
+-- What each call of a ring requires, adds to its history, and changes in its contents.
 use Rattle.std.specs.Prelude.{ℕ, ◌≡◌, true, List, [], ◌∷◌, ◌++◌, length, Some}
 use Rattle.std.specs.List.{Contains}
 use Rattle.std.specs.FinMap.{get, insert, remove}
@@ -14,7 +14,7 @@ use Rattle.rb_history.specs.ReservationModel.{Granted}
 use Rattle.rb_history.specs.RoomRule.{HasRoomFor}
 use Rattle.rb_history.specs.RingModel.{Ring, HasLength}
 
--- ---- what a ring's history says now
+-- ---- the current state of a ring's history
 
 abbrev pub producer_now : Ring → ℕ
 producer_now v = producer_of v.setup.start v.history
@@ -25,7 +25,7 @@ consumer_now v = consumer_of v.setup.start v.history
 abbrev pub RingHasRoom : Ring → ℕ → Type 0
 RingHasRoom v n = HasRoomFor v.setup v.history n
 
--- a record of these four numbers is busy
+-- a record with these four numbers is busy
 pub record IsBusy (h : List Entry) (p w k n : ℕ) : Type 0 where
   pub granted_is : Contains h (Res w k n p)
   pub busy : status_of h p ≡ Busy
@@ -43,14 +43,14 @@ pub record HasBusyFront (v : Ring) : Type 0 where
 abbrev pub AllTaken : Ring → Type 0
 AllTaken v = producer_now v ≡ consumer_now v
 
--- the entries were added to the history, and the ring is the same ring
+-- the entries were appended to the history, and the ring's parameters did not change
 pub record Logs (old new : Ring) (entries : List Entry) : Type 0 where
   pub setup_same : new.setup ≡ old.setup
   pub history_is : new.history ≡ old.history ++ entries
 
 -- ---- reserve and output
 
--- a record of n bytes was granted to a worker
+-- a record of n bytes was granted to worker w, at position p with serial k
 pub record Grants (old new : Ring) (w n p k : ℕ) : Type 0 where
   pub room : RingHasRoom old n
   pub position : p ≡ producer_now old
@@ -58,19 +58,19 @@ pub record Grants (old new : Ring) (w n p k : ℕ) : Type 0 where
   pub logged : Logs old new (Res w k n p ∷ [])
   pub contents_same : new.contents ≡ old.contents
 
--- there is no room for a record of n bytes, and that is logged
+-- there is no room for a record of n bytes, and the refusal is logged
 pub record FindsFull (old new : Ring) (w n : ℕ) : Type 0 where
   pub no_room : ¬ RingHasRoom old n
   pub logged : Logs old new (Full w n ∷ [])
   pub contents_same : new.contents ≡ old.contents
 
--- a record of these bytes was granted and submitted at once
+-- a record of these bytes was granted and submitted in one call
 pub record Outputs (old new : Ring) (w : ℕ) (bytes : List ℕ) : Type 0 where
   pub room : RingHasRoom old (length bytes)
   pub logged : Logs old new (Res w (grants w old.history) (length bytes) (producer_now old) ∷ Sub (producer_now old) ∷ [])
   pub contents_are : new.contents ≡ insert old.contents (producer_now old) bytes
 
--- why no record of n bytes was granted
+-- the reason why no record of n bytes was granted holds
 abbrev pub Refuses : Ring → Ring → ℕ → ℕ → NoGrant → Type 0
 Refuses old new w n FaultFull = FindsFull old new w n
 Refuses old new w n FaultMemory = new ≡ old
@@ -97,7 +97,7 @@ pub record Strays (old new : Ring) (r : Granted) : Type 0 where
 
 -- ---- take
 
--- the bytes of the waiting record at the consumer position are handed out
+-- the waiting record at the consumer position was taken, and its bytes are returned
 pub record TakesEvent (old new : Ring) (p w k : ℕ) (bytes : List ℕ) : Type 0 where
   pub front : p ≡ consumer_now old
   pub granted_is : Contains old.history (Res w k (length bytes) p)
@@ -106,7 +106,7 @@ pub record TakesEvent (old new : Ring) (p w k : ℕ) (bytes : List ℕ) : Type 0
   pub logged : Logs old new (Take p ∷ [])
   pub contents_are : new.contents ≡ remove old.contents p
 
--- the discarded record at the consumer position is passed over
+-- the discarded record at the consumer position was skipped
 pub record Skips (old new : Ring) (p n : ℕ) : Type 0 where
   pub front : p ≡ consumer_now old
   pub granted_is : HasLength old.history p n

@@ -1,4 +1,4 @@
--- The counts of a history: each the length of a filter.
+-- The counts of a history: each is the length of a filter.
 use Rattle.std.specs.Prelude.{ℕ, List, Bool, true, false}
 use Rattle.std.specs.List.{count_by}
 use Rattle.rb_history.specs.declared.entries.Entry.{Entry}
@@ -26,16 +26,16 @@ is_same Consumed Consumed = true
 is_same Discarded Discarded = true
 is_same _ _ = false
 
--- the entry grants a record that has this status now
+-- the entry grants a record whose current status is this one
 abbrev pub has_status : Status → List Entry → Entry → Bool
 has_status st h (Res w k n p) = is_same st (status_of h p)
 has_status st h _ = false
 
--- how many records have this status
+-- the number of records with this status
 abbrev pub status_count : Status → List Entry → ℕ
 status_count st h = count_by (has_status st h) h
 
--- the six counts
+-- the six counts of a history
 abbrev pub counts_of : List Entry → Counts
 counts_of h = record {
   made = count_by is_grant_entry h;

@@ -1,11 +1,11 @@
--- What a whole history says: sums and filters over all its entries.
+-- What a whole history determines: sums and filters over all its entries.
 use Rattle.std.specs.Prelude.{ℕ, ◌+◌, ◌==◌, Bool, true, false, List, Option, Some, None, if◌then◌else◌}
 use Rattle.std.specs.List.{list_any, sum_by, count_by, filter_map}
 use Rattle.rb_history.specs.declared.entries.Entry.{Entry}
 use Rattle.rb_history.specs.declared.entries.Entry.TheVariants.{Res, Sub, Dis, Take}
 use Rattle.rb_history.specs.Span.{span}
 
--- ---- the tests of an entry
+-- ---- tests of an entry
 
 abbrev pub is_grant_at : ℕ → Entry → Bool
 is_grant_at p (Res w k n q) = q == p
@@ -27,7 +27,7 @@ abbrev pub is_take : ℕ → Entry → Bool
 is_take p (Take q) = q == p
 is_take p _ = false
 
--- ---- what a history says of the record at a position
+-- ---- the record at a position, in a history
 
 abbrev pub is_granted_at : List Entry → ℕ → Bool
 is_granted_at h p = list_any (is_grant_at p) h
@@ -54,8 +54,8 @@ status_by true false true = Consumed
 status_by true false false = Waiting
 status_by false false t = Busy
 
--- a record is busy until it is submitted or discarded; a submitted one waits until it is taken and is consumed then;
--- a discarded one stays so (ringbuf.rst: a reserved record is committed or discarded)
+-- A record is busy until it is submitted or discarded. A submitted record waits until it is taken, and is then
+-- consumed. A discarded one remains discarded (ringbuf.rst: a reserved record is committed or discarded).
 abbrev pub status_of : List Entry → ℕ → Status
 status_of h p = status_by (is_submitted_at h p) (is_discarded_at h p) (is_taken_at h p)
 
@@ -65,7 +65,7 @@ abbrev pub granted_span : Entry → ℕ
 granted_span (Res w k n p) = span n
 granted_span _ = 0
 
--- the producer position: the start and the spans of all granted records
+-- the producer position: the start plus the spans of all granted records
 abbrev pub producer_of : ℕ → List Entry → ℕ
 producer_of start h = start + sum_by granted_span h
 
@@ -73,7 +73,7 @@ abbrev pub granted_span_at : ℕ → Entry → ℕ
 granted_span_at p (Res w k n q) = if q == p then span n else 0
 granted_span_at p _ = 0
 
--- the span of the record at p, as the entry that granted it says
+-- the span of the record at p, by the entry that granted it
 abbrev pub span_of_record : List Entry → ℕ → ℕ
 span_of_record h p = sum_by (granted_span_at p) h
 
@@ -81,17 +81,17 @@ abbrev pub taken_span : List Entry → Entry → ℕ
 taken_span h (Take p) = span_of_record h p
 taken_span h _ = 0
 
--- the consumer position: the start and the spans of the records that the Take entries name
+-- the consumer position: the start plus the spans of the records that the Take entries name
 abbrev pub consumer_of : ℕ → List Entry → ℕ
 consumer_of start h = start + sum_by (taken_span h) h
 
--- how many records a worker was granted
+-- the number of records that were granted to a worker
 abbrev pub grants : ℕ → List Entry → ℕ
 grants w h = count_by (is_grant_of w) h
 
--- ---- the records that are there
+-- ---- the records that were not taken
 
--- a record, as a state shows it
+-- a record, as a ring's state shows it
 pub record Shown : Type 0 where
   pub pos : ℕ
   pub len : ℕ
@@ -104,6 +104,6 @@ untaken h (Res w k n p) =
     if is_taken_at h p then None else Some (record { pos = p; len = n; worker = w; serial = k; status = status_of h p })
 untaken h _ = None
 
--- the records of a history without a Take, in order
+-- the records of a history that were not taken, in order
 abbrev pub records : List Entry → List Shown
 records h = filter_map (untaken h) h

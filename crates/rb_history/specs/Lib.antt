@@ -1,4 +1,4 @@
--- What the theorem of a shared ring rests on, in the order in which it is read (docs/READ_THE_THEOREM.md).
+-- The definitions on which the theorem of a shared ring rests, in reading order (docs/READ_THE_THEOREM.md).
 pub mod Span
 pub mod History
 pub mod RoomRule
@@ -6,7 +6,7 @@ pub mod Legal
 pub mod Counting
 pub mod WorkerCounts
 pub mod RingModel
--- What the calls do, what lies in memory and on a tape.
+-- The effects of calls, and the layout of records in memory and on a tape.
 pub mod Header
 pub mod TapeBytes
 pub mod NoticesAndQueries

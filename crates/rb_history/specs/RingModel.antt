@@ -1,4 +1,4 @@
--- What a contract sees of a ring, and what its state stands for.
+-- The view that contracts have of a ring, and when its state agrees with its history.
 use Rattle.std.specs.Prelude.{ℕ, ◌≡◌, ◌+◌, ◌-◌, ◌≤◌, ◌^◌, ◌%◌, ◌↔◌, true, List, [], Some, is_some, length}
 use Rattle.std.specs.List.{Contains}
 use Rattle.std.specs.Ordering.{nat_cmp}
@@ -18,7 +18,7 @@ Contents = FinMap nat_cmp (List ℕ)
 abbrev pub contents_code : Coded Contents
 contents_code = code coded_ℕ (coded_list coded_ℕ)
 
--- a ring: its history and contents, and what it shows
+-- a ring: its parameters, history and contents, and what its state shows
 pub record Ring : Type 0 where
   pub setup : Setup
   pub history : List Entry
@@ -27,12 +27,12 @@ pub record Ring : Type 0 where
   pub producer : ℕ
   pub consumer : ℕ
 
--- the history grants the record at p with n bytes
+-- the history grants a record of n bytes at p
 abbrev pub HasLength : List Entry → ℕ → ℕ → Type 0
 HasLength h p n = (w : ℕ) × ((k : ℕ) × Contains h (Res w k n p))
 
--- it shows exactly the records without a Take, in order, and both positions; the contents are those of the waiting ones,
--- each as long as its record
+-- The ring shows exactly the records without a Take, in order, and both positions. The contents are those of the
+-- waiting records, each with the length of its record.
 pub record StandsFor (v : Ring) : Type 0 where
   pub shown : v.shown ≡ records v.history
   pub producer_is : v.producer ≡ producer_of v.setup.start v.history
@@ -40,7 +40,7 @@ pub record StandsFor (v : Ring) : Type 0 where
   pub contents : (p : ℕ) → (is_some (get v.contents p) ≡ true) ↔ (status_of v.history p ≡ Waiting)
   pub sized : (p : ℕ) (bytes : List ℕ) → get v.contents p ≡ Some bytes → HasLength v.history p (length bytes)
 
--- the ring of the empty history
+-- a ring with an empty history
 abbrev pub fresh : ℕ → ℕ → ℕ → Ring
 fresh size start workers = record {
   setup = record { size = size; start = start; workers = workers };
@@ -63,7 +63,7 @@ IsStartPosition start = (start % 8 ≡ 0) × (start ≤ 2 ^ 61)
 abbrev pub IsWorkerCount : ℕ → Type 0
 IsWorkerCount workers = (1 ≤ workers) × (workers ≤ 256)
 
--- the bounds of a ring
+-- the bounds on a ring's parameters and positions
 pub record IsWithinBounds (v : Ring) : Type 0 where
   pub size : IsRingSize v.setup.size
   pub start : IsStartPosition v.setup.start

@@ -1,4 +1,4 @@
--- What a list of records shows, and what a record of it hands out.
+-- What a list of stored records shows, and what a take of one of them returns.
 use Rattle.std.specs.Prelude.{ℕ, ◌≡◌, ◌==◌, ◌&&◌, Bool, true, false, List, Option, Some, None, length}
 use Rattle.std.specs.List.{filter_map}
 use Rattle.std.specs.FinMap.{from_entries}
@@ -27,11 +27,11 @@ state_bytes p _ = None
 abbrev pub record_bytes : StoredRecord → Option (ℕ × List ℕ)
 record_bytes s = state_bytes s.pos s.state
 
--- the bytes of the records that wait, by position
+-- the bytes of the waiting records, by position
 abbrev pub contents_of : List StoredRecord → Contents
 contents_of stored = from_entries (filter_map record_bytes stored)
 
--- the bytes of a record are as many as it says
+-- a submitted record has as many bytes as its length
 abbrev pub SizedAs : ℕ → RecordState → Type 0
 SizedAs n (Submitted s) = length s ≡ n
 SizedAs n _ = Unit {0}
@@ -39,7 +39,7 @@ SizedAs n _ = Unit {0}
 abbrev pub IsSized : StoredRecord → Type 0
 IsSized s = SizedAs s.len s.state
 
--- how many entries a record still waits for: its end and its take, or its take
+-- the number of entries that a record will still log: its commit and its take, or only its take
 abbrev pub entries_owed : Status → ℕ
 entries_owed Busy = 2
 entries_owed _ = 1
@@ -52,7 +52,7 @@ abbrev pub is_submitted_state : RecordState → Bool
 is_submitted_state (Submitted s) = true
 is_submitted_state _ = false
 
--- the record is busy, and has the four numbers of the reservation
+-- the record is busy and has the four numbers of the reservation
 abbrev pub is_reserved_by : Granted → StoredRecord → Bool
 is_reserved_by r s = is_reserved_state s.state && (s.pos == r.pos) && (s.worker == r.worker) && (s.serial == r.serial) && (s.len == length r.bytes)
 
@@ -61,6 +61,6 @@ taken_of s (Submitted b) = Event s.pos s.worker s.serial b
 taken_of s Reserved = Skipped s.pos s.len
 taken_of s DiscardedState = Skipped s.pos s.len
 
--- what a take of the record hands out
+-- what a take of the record returns
 abbrev pub IsTakenOf : StoredRecord → Taken → Type 0
 IsTakenOf s t = t ≡ taken_of s s.state

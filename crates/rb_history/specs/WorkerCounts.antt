@@ -1,4 +1,4 @@
--- Whose the records of a history are, and its counts for one worker and for the consumer (own).
+-- The worker of each record, and the counts of a history for one worker and for the consumer (own).
 use Rattle.std.specs.Prelude.{ℕ, ◌==◌, ◌&&◌, Bool, false, List, [], ◌∷◌, ◌++◌, zero, suc, Option, Some, None, if◌then◌else◌}
 use Rattle.std.specs.List.{list_any, count_by, filter_map}
 use Rattle.rb_history.specs.declared.entries.Entry.{Entry}
@@ -6,33 +6,34 @@ use Rattle.rb_history.specs.declared.entries.Entry.TheVariants.{Res, Full, Sub, 
 use Rattle.rb_history.specs.History.{grants, is_submitted_at, is_discarded_at}
 use Rattle.rb_history.specs.declared.tally.Tally.{Tally}
 
--- ---- whose a record is
+-- ---- the worker of a record
 
 abbrev pub is_grant_to : ℕ → ℕ → Entry → Bool
 is_grant_to w p (Res v k n q) = (v == w) && (q == p)
 is_grant_to w p _ = false
 
--- the record at p is one that was granted to worker w
+-- the record at p was granted to worker w
 abbrev pub is_record_of : ℕ → List Entry → ℕ → Bool
 is_record_of w h p = list_any (is_grant_to w p) h
 
--- ---- a worker's
+-- ---- the counts of a worker
 
 abbrev pub is_refusal_of : ℕ → Entry → Bool
 is_refusal_of w (Full v n) = v == w
 is_refusal_of w _ = false
 
--- the entry submits a record of the worker's, where h grants it
+-- the entry submits a record that h grants to the worker
 abbrev pub is_submit_of : ℕ → List Entry → Entry → Bool
 is_submit_of w h (Sub p) = is_record_of w h p
 is_submit_of w h _ = false
 
--- the entry discards a record of the worker's, where h grants it
+-- the entry discards a record that h grants to the worker
 abbrev pub is_discard_of : ℕ → List Entry → Entry → Bool
 is_discard_of w h (Dis p) = is_record_of w h p
 is_discard_of w h _ = false
 
--- how many entries of a history are the worker's: its grants, its refusals, and the submits and discards of its records
+-- a worker's entries in a history, counted by kind: its grants, its refusals, and the submits and discards of its
+-- records
 abbrev pub tally_of : ℕ → List Entry → Tally
 tally_of w h = record {
   made = grants w h;
@@ -41,18 +42,18 @@ tally_of w h = record {
   discarded = count_by (is_discard_of w h) h;
 }
 
--- ---- the consumer's
+-- ---- the counts of the consumer
 
 -- the entry takes a record whose position passes the test
 abbrev pub is_take_where : (ℕ → Bool) → Entry → Bool
 is_take_where test (Take p) = test p
 is_take_where test _ = false
 
--- how many submitted records were taken
+-- the number of submitted records that were taken
 abbrev pub events_of : List Entry → ℕ
 events_of h = count_by (is_take_where (is_submitted_at h)) h
 
--- how many discarded records were passed over
+-- the number of discarded records that were skipped
 abbrev pub skips_of : List Entry → ℕ
 skips_of h = count_by (is_take_where (is_discarded_at h)) h
 

@@ -1,58 +1,59 @@
-//! What the calls of a ring answer.
+//! What the calls of a ring return.
 
 use rb_lend::Sheet;
 use thiserror::Error;
 
-/// Whether a notice of a record is due to the consumer (bpf-helpers(7): the notification of new data availability).
+/// Whether the consumer is to be notified of a record (bpf-helpers(7): the notification of new data availability).
 #[derive(Clone, Copy, Debug, PartialEq, Eq)]
 pub enum Notice {
-    /// A notice is due.
+    /// A notification is due.
     Due,
-    /// None is due.
+    /// No notification is due.
     NotDue,
 }
 
-/// Why a ring that keeps its whole history grants no record. A refusal hands the sheet back.
+/// Why a ring that keeps its whole history did not grant a record. The refused call returns the sheet (the record's
+/// byte buffer).
 #[derive(Clone, Copy, Debug, Error, PartialEq, Eq)]
 pub enum NoGrant {
     /// The ring has no room for the record. The refusal is logged.
     #[error("the ring has no room")]
     Full,
-    /// A growth was refused. Nothing changed.
+    /// Memory could not be allocated. Nothing changed.
     #[error("out of memory")]
     Memory,
-    /// The flags of an `output` are above 3. Nothing changed.
+    /// The flags of an `output` are greater than 3. Nothing changed.
     #[error("unknown flags")]
     Flags,
 }
 
-/// What a take found at the consumer position.
+/// What a take (the consumer's call for the next record) found at the consumer position.
 #[derive(Drop)]
 pub enum Taken {
-    /// A submitted record was taken: its position, worker and serial, and its bytes.
+    /// A submitted record was taken: its position, worker, serial and bytes.
     Event(u64, u32, u64, Sheet),
-    /// A discarded record was passed over: its position, and its length in bytes.
+    /// A discarded record was skipped: its position, and its length in bytes.
     Skipped(u64, u32),
-    /// The record there is busy: neither submitted nor discarded yet. Nothing changed.
+    /// The record at the consumer position is busy: it was neither submitted nor discarded yet. Nothing changed.
     BusyFront,
-    /// There is no record there. Nothing changed.
+    /// There is no record. Nothing changed.
     Empty,
 }
 
-/// How many reservations a ring's history has: granted, refused for room, and granted ones by status. `made` is the sum of
-/// the last four.
+/// The numbers of reservations in a ring's history: granted, refused for lack of room, and the granted ones by status.
+/// `made` is the sum of the last four.
 #[derive(Clone, Copy, Debug, PartialEq, Eq)]
 pub struct Counts {
     /// Records that were granted.
     pub made: u64,
-    /// Reservations and outputs that found no room.
+    /// Reservations and outputs that were refused for lack of room.
     pub refused: u64,
     /// Records that were submitted and taken.
     pub consumed: u64,
-    /// Records that were discarded, passed over or not yet.
+    /// Records that were discarded, whether skipped by a take yet or not.
     pub discarded: u64,
-    /// Records that were submitted and not taken.
+    /// Records that were submitted and not taken yet.
     pub waiting: u64,
-    /// Records that were neither submitted nor discarded.
+    /// Records that were neither submitted nor discarded yet.
     pub busy: u64,
 }

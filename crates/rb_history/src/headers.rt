@@ -5,32 +5,32 @@ ghost use Rattle.std.specs.Prelude.{◌≡◌, ◌<◌, ◌^◌, ◌&&◌, ◌�
 use byteorder::{ByteOrder, LittleEndian};
 use thiserror::Error;
 
-/// The bit of a header's length word that says that the record is busy: bit 31, above the 30 bits of the length and the discard
+/// The bit of a header's length word that marks a busy record: bit 31, above the 30 bits of the length and the discard
 /// bit (Linux include/uapi/linux/bpf.h, BPF_RINGBUF_BUSY_BIT).
 pub const BUSY_BIT: u32 = 1 << 31;
 
-/// The bit of a header's length word that says that the record was discarded: bit 30, right above the length (Linux
+/// The bit of a header's length word that marks a discarded record: bit 30, just above the length (Linux
 /// include/uapi/linux/bpf.h, BPF_RINGBUF_DISCARD_BIT).
 pub const DISCARD_BIT: u32 = 1 << 30;
 
-/// The header in front of a record, eight bytes when written: its length, its state and its page. (Linux
-/// Documentation/bpf/ringbuf.rst.)
+/// The header of a record: its length, its state and its page. It is written as eight bytes in front of the record.
+/// (Linux Documentation/bpf/ringbuf.rst.)
 #[derive(Clone, Copy, Debug, PartialEq, Eq)]
 pub struct Header {
-    /// How many bytes the record has, below 2^30.
+    /// The length of the record in bytes, less than 2^30.
     pub len: u32,
-    /// Whether the record was granted and neither submitted nor discarded yet.
+    /// Whether the record was neither submitted nor discarded yet.
     pub busy: bool,
-    /// Whether the record was discarded, so that the consumer passes it over.
+    /// Whether the record was discarded, so that the consumer skips it.
     pub discard: bool,
-    /// The page of 4,096 bytes that the record begins in, counted from the front of the ring's bytes.
+    /// The page of 4,096 bytes in which the record begins, counted from the start of the ring's bytes.
     pub page: u32,
 }
 
-/// Why eight bytes are no record's header.
+/// Why eight bytes are not the header of a record.
 #[derive(Clone, Copy, Debug, PartialEq, Eq, Error)]
 pub enum HeaderFault {
-    /// The busy bit and the discard bit are both set beside the length.
+    /// The busy bit and the discard bit are both set.
     #[error("the header is both busy and discarded")]
     LengthWithBusyAndDiscard,
 }
@@ -38,8 +38,10 @@ pub enum HeaderFault {
 impl Header {
     ghost use Rattle.rb_history.specs.Header.{header_bytes, IsHeader, HasBothBits};
 
-    /// The eight bytes of the header: the length word, whose bits 0 to 29 are the length, bit 30 the discard bit and bit 31 the
-    /// busy bit, and then the page, each of the two with its lowest byte first. In constant time.
+    /// Returns the header as eight bytes: the length word, and then the page, both in little-endian order. Bits 0 to 29
+    /// of the length word are the length, bit 30 is the discard bit, and bit 31 the busy bit.
+    ///
+    /// Takes constant time.
     pub fn to_bytes(&self) -> [u8; 8]
         requires len { self.now.len < 2 ^ 30 }
         requires one_bit { (self.now.busy && self.now.discard) ≡ false }
@@ -58,7 +60,10 @@ impl Header {
         bytes
     }
 
-    /// The one header whose bytes these are, or `LengthWithBusyAndDiscard` exactly where both bits are set. In constant time.
+    /// Parses eight bytes as a header. Returns the only header that `to_bytes` writes as these bytes, or
+    /// `LengthWithBusyAndDiscard` if and only if both bits are set.
+    ///
+    /// Takes constant time.
     pub fn from_bytes(bytes: &[u8; 8]) -> Result<Header, HeaderFault>
         ensures found { IfOk result (λ h. IsHeader h × (header_bytes h ≡ bytes.now)) }
         ensures only { (h : Header) → IsHeader h → header_bytes h ≡ bytes.now → result ≡ Ok h }

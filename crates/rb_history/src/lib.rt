@@ -1,10 +1,12 @@
-//! What a BPF ring buffer's history says, for the rings (`rb_chapter_ring`, `rb_shared_ring`) and their callers: the
-//! entries, the answers of a ring's calls, the bytes of its records, and the definitions that all their contracts cite. The rules are those of Linux
-//! Documentation/bpf/ringbuf.rst and bpf-helpers(7); where these leave a choice, the definition says 'own'.
+//! The history of a BPF ring buffer, as the rings (`rb_chapter_ring`, `rb_shared_ring`) and their callers use it: its
+//! entries, the return values of a ring's calls, the bytes of its records, and the definitions that their contracts
+//! cite. The rules are those of Linux Documentation/bpf/ringbuf.rst and bpf-helpers(7). Where these leave a choice, the
+//! definition says 'own'.
 //!
-//! `specs/` has the whole of it: positions and records as sums and filters over the history, the room rule, which entry may follow
-//! which history, and what each call adds. Proved here: each legal history that is one entry longer than a ring's is one call's step
-//! (`each_entry_is_one_call`), so the rules allow what calls can do, and nothing else. There is no ring in this crate.
+//! `specs/` defines positions and records as sums and filters over the history, the room rule, which entry may follow
+//! which history, and what each call adds. Proved here: every legal history that extends a ring's history by one entry
+//! is the result of one call (`each_entry_is_one_call`), so the rules allow exactly what calls can do. This crate
+//! contains no ring.
 //!
 //! ```text
 //! assert_eq!(rt; check_setup(4096, 4, 1), Err(SetupFault::Start));
@@ -14,12 +16,14 @@
 //!
 //! # The bytes of records
 //!
-//! `span` is how far a record moves a ring's positions, `page_of` the page that it begins in, `Header` the eight bytes in front of it (Linux
-//! Documentation/bpf/ringbuf.rst and include/uapi/linux/bpf.h). A tape is what was taken from a ring, its records written one behind the other.
+//! `span` is the number of bytes by which a record advances a ring's positions, `page_of` the page in which it begins,
+//! and `Header` the eight bytes in front of it (Linux Documentation/bpf/ringbuf.rst and include/uapi/linux/bpf.h). A
+//! tape is the records that were taken from a ring, written one after the other.
 //!
-//! Proved: `from_bytes` gives the one header whose bytes these are, and a fault exactly where both bits are set; `span` is the least
-//! that holds header and payload in eights; and bytes begin with at most one tape of so many records (`tapes_are_unique`), so that a
-//! tape reads back in one way alone. No call takes memory, each takes constant time.
+//! Proved: `from_bytes` returns the only header with the given bytes, and a fault if and only if both bits are set.
+//! `span` is the smallest multiple of eight that holds the header and the payload. A sequence of bytes begins with at
+//! most one tape of a given number of records (`tapes_are_unique`), so a tape can be read back in only one way. No call
+//! allocates, and each takes constant time.
 //!
 //! ```text
 //! assert_eq!(rt; span(13), 24);

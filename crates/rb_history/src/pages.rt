@@ -4,12 +4,14 @@ ghost use Rattle.std.specs.Prelude.{◌≡◌};
 ghost use Rattle.std.specs.Int.{IsPowerOfTwo};
 ghost use Rattle.rb_history.specs.TapeBytes as tapes;
 
-// How many bytes a page has (Linux Documentation/bpf/ringbuf.rst counts a record's place in pages).
+// The size of a page in bytes (Linux Documentation/bpf/ringbuf.rst gives a record's offset in pages).
 const PAGE: u64 = 4096;
 
 #[inline(always)]
-/// The number of the page of 4,096 bytes that a position lies in, counted from the front of the bytes of a ring of this size, a power
-/// of two. In constant time, and without a division. (Linux Documentation/bpf/ringbuf.rst.)
+/// Returns the number of the page of 4,096 bytes that contains `position`, counted from the start of the bytes of a
+/// ring of this size, a power of two. (Linux Documentation/bpf/ringbuf.rst.)
+///
+/// Takes constant time and does not divide.
 pub fn page_of(size: u64, position: u64) -> u64
     requires size { IsPowerOfTwo size }
     ensures value { result ≡ tapes.page_of size position }

@@ -1,40 +1,42 @@
-//! The records that are there, as a ring's body keeps them in a list.
+//! The records that were granted and not taken yet, as an implementation keeps them in a list.
 
 ghost use Rattle.rb_history.specs.StoredRecords.{IsTakenOf};
 
 use crate::answers::Taken;
 use rb_lend::Sheet;
 
-/// What became of a record that was not taken yet (Linux Documentation/bpf/ringbuf.rst: reserved, then committed or
+/// The state of a record that was not taken yet (Linux Documentation/bpf/ringbuf.rst: reserved, then committed or
 /// discarded).
 #[derive(Drop)]
 pub enum RecordState {
-    /// It is busy: it was neither submitted nor discarded yet. Its bytes are its worker's.
+    /// The record is busy: it was neither submitted nor discarded yet. Its worker holds its bytes.
     Reserved,
-    /// It was submitted and waits for the consumer, with its bytes.
+    /// The record was submitted and waits for the consumer, with its bytes.
     Submitted(Sheet),
-    /// It was discarded and is to be passed over.
+    /// The record was discarded, and a take will skip it.
     Discarded,
 }
 
 /// A record that was granted and not taken yet.
 #[derive(Drop)]
 pub struct StoredRecord {
-    /// Its position, in bytes.
+    /// The position, in bytes.
     pub pos: u64,
-    /// Its length in bytes.
+    /// The length in bytes.
     pub len: u32,
-    /// The number of the worker that it was granted to.
+    /// The number of the worker to which the record was granted.
     pub worker: u32,
-    /// How many records that worker was granted before.
+    /// The number of records that were granted to that worker before.
     pub serial: u64,
-    /// What became of it.
+    /// The state.
     pub state: RecordState,
 }
 
 impl StoredRecord {
-    /// What a take of this record hands out: the event with its bytes where it was submitted, else that it is skipped, with its
-    /// position and length. No ring takes a busy one. It takes no memory and constant time.
+    /// Returns what a take of this record returns: the event with its bytes if it was submitted, otherwise a skip with
+    /// its position and length. No ring takes a busy record.
+    ///
+    /// Takes constant time and does not allocate.
     pub fn taken(self) -> Taken
         ensures taken { IsTakenOf self result }
     {

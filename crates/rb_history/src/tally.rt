@@ -1,22 +1,22 @@
-//! A worker's numbers.
+//! A worker's counts.
 
 ghost use Rattle.std.specs.Prelude.{◌≡◌};
 
-/// How many entries of a ring's history are one worker's, by kind.
+/// The number of entries of one worker in a ring's history, by kind.
 #[derive(Clone, Copy, Debug, PartialEq, Eq)]
 pub struct Tally {
-    /// Records that it was granted.
+    /// Records that were granted to the worker.
     pub made: u64,
-    /// Reservations of its own that found no room.
+    /// Reservations of the worker that were refused for lack of room.
     pub refused: u64,
-    /// Records of its own that were submitted.
+    /// Records of the worker that were submitted.
     pub submitted: u64,
-    /// Records of its own that were discarded.
+    /// Records of the worker that were discarded.
     pub discarded: u64,
 }
 
 impl Tally {
-    /// The numbers of a worker without entries.
+    /// Returns the counts of a worker without entries: four zeros.
     pub fn none() -> Tally
         ensures zeros { result ≡ record { made = 0; refused = 0; submitted = 0; discarded = 0 } }
     {

@@ -1,4 +1,4 @@
--- What the crates above need of the definitions.
+-- Lemmas about the definitions, for the crates above.
 use Rattle.std.proofs.Common.{◌≡◌, ℕ, zero, suc, ◌/◌, ◌%◌, ◌^◌, ◌<◌, ℤ, pos, negsuc, not, eqb, refl, sym, arith, w64}
 use Rattle.std.proofs.lemmas.Bool.{cond_both}
 use Rattle.std.proofs.lemmas.Int.{ints}
@@ -28,7 +28,7 @@ use Rattle.rb_insn.specs.WholeNumbers.{low_bits, signed_of, wrapped, reversed_by
 use Rattle.rb_insn.specs.ArithmeticAndJumps.{bits_of, operand_of, division_of, sign_extended, reordered, swap_bytes_of, IgnoresSource, IgnoresDestination, value_of, jumps_of}
 use Rattle.rb_insn.proofs.Signed as signed
 
--- a value of at most 64 bits
+-- values have at most 64 bits
 
 pub wrapped-lt : (bits : ℕ) (z : ℤ) → wrapped bits z < 2 ^ bits
 unfolding wrapped
@@ -79,7 +79,7 @@ reordered-lt Swap B16 n = omega (arith, reversed_bytes-lt 2 n)
 reordered-lt Swap B32 n = omega (arith, reversed_bytes-lt 4 n)
 reordered-lt Swap B64 n = omega (arith, reversed_bytes-lt 8 n)
 
--- what an instruction gives is a value of 64 bits, whatever its registers held
+-- an instruction's result fits 64 bits, for any register values
 pub value_of-lt : (insn : Insn) (dst src : ℕ) → value_of insn dst src < 2 ^ 64
 unfolding value_of sign_extended
 value_of-lt (Binary width op _ operand) dst src = below_64 width _ (binary_of-lt (bits_of width) op _ _ (low_bits-lt width dst) (low_bits-lt width (operand_of operand src)))
@@ -91,7 +91,7 @@ value_of-lt (MoveExtended64 _ _ _) dst src = wrapped-lt 64 _
 value_of-lt (Reorder order width _) dst src = reordered-lt order width dst
 value_of-lt _ dst src = omega arith
 
--- what an instruction does not depend on
+-- what results do not depend on
 
 pub value_of-source_unread : (insn : Insn) (dst a b : ℕ) → IgnoresSource insn → value_of insn dst a ≡ value_of insn dst b
 unfolding value_of
@@ -120,7 +120,7 @@ jumps_of-source_unread (Reorder _ _ _) dst a b unread = refl
 jumps_of-source_unread (Branch _ _ _ (Immediate _) _) dst a b unread = refl
 jumps_of-source_unread _ dst a b unread = absurd unread
 
--- a whole copy, and the tests against zero
+-- full-width copies, and tests against zero
 
 pub value_of-copy : (dst src : Reg) (a b : ℕ) → b < 2 ^ 64 → value_of (Move W64 dst (Register src)) a b ≡ b
 unfolding value_of
@@ -136,14 +136,14 @@ jumps_of-not_equal_zero dst distance a b small = let low : a % 2 ^ 64 ≡ a = om
 
 -- signed readings
 
--- a number of 64 bits read as signed is what a cast to `i64` gives
+-- reading a 64-bit number as signed is a cast to `i64`
 pub signed_of-cast : (n : ℕ) → n < 2 ^ 64 → signed_of 64 n ≡ cast_signed w64 n
 signed_of-cast n small = sym (signed.signed_of-cast_64 n small)
 
 pub signed_of-fits : (n : ℕ) → n < 2 ^ 64 → mag (signed_of 64 n) < 2 ^ 63
 signed_of-fits n small = signed.signed_of-small W64 n small
 
--- a number that fits 64 bits with its sign is read back
+-- a number that fits a signed 64-bit integer is read back unchanged
 pub signed_of-wrapped : (z : ℤ) → mag z < 2 ^ 63 → signed_of 64 (wrapped 64 z) ≡ z
 unfolding wrapped signed_of
 signed_of-wrapped (pos n) small = grind (arith, nat_tests, ints)

@@ -1,4 +1,4 @@
--- The laws of spellings.
+-- The laws of the encoding.
 use Rattle.std.proofs.Common.{◌≡◌, ℕ, ◌*◌, ◌≤◌, ◌⊎◌, inl, inr, List, [], ◌∷◌, ◌++◌, length, refl, sym, ap, ◌∙◌, append_assoc, arith}
 use Rattle.std.specs.List.{flat_map, AllByRecursion}
 use Rattle.std.proofs.lemmas.List.{append-nil, append_cancel_left, length-append}
@@ -32,9 +32,9 @@ length-spelling-bound (LoadNumber dst value) = omega arith
 length-spelling-bound (LoadRing dst ring) = omega arith
 length-spelling-bound insn = omega (arith, length-spelling insn)
 
--- ---- one spelling
+-- ---- one encoding
 
--- instructions whose spellings begin the same bytes are one
+-- instructions whose encodings start the same bytes are equal
 pub spelling-first : (a b : Insn) (p q : List ℕ) → FieldsFit a → FieldsFit b → spelling a ++ p ≡ spelling b ++ q → a ≡ b
 spelling-first a b p q fa fb e = sym (read-spelling a p fa) ∙ ap read e ∙ read-spelling b q fb
 
@@ -46,7 +46,7 @@ no_spelling_begins_another a b s t p q sa tb e =
 
 -- ---- lists of instructions
 
--- Lists that begin the same bytes begin each other.
+-- If the encodings of two lists start the same bytes, one list is a prefix of the other.
 pub fronts : (a b : List Insn) (p q : List ℕ) → AllByRecursion FieldsFit a → AllByRecursion FieldsFit b → flat_map spelling a ++ p ≡ flat_map spelling b ++ q
     → ((c : List Insn) × (b ≡ a ++ c)) ⊎ ((c : List Insn) × (a ≡ b ++ c))
 fronts [] b p q fa fb e = inl (b, refl)
@@ -62,13 +62,13 @@ fronts (x ∷ xs) (y ∷ ys) p q fa fb e =
       | inr f ↦ inr (f.0, ap (λ (l : List Insn). x ∷ l) f.1 ∙ ap (λ (i : Insn). i ∷ (ys ++ f.0)) same)
     ]
 
--- what is spelled by no byte is nothing
+-- an instruction list with an empty encoding is empty
 pub no_bytes : (a : List Insn) → flat_map spelling a ≡ [] → a ≡ []
 no_bytes [] e = refl
 no_bytes (x ∷ xs) e =
     absurd (omega (arith, length-spelling-bound x, length-append (spelling x) (flat_map spelling xs), ap length (sym (flat_map-cons spelling x xs) ∙ e)))
 
--- what goes on with no byte more is the same
+-- an extension of a list that adds no byte adds no instruction
 no_more : (a c : List Insn) → flat_map spelling a ≡ flat_map spelling (a ++ c) → c ≡ []
 no_more a c e = no_bytes c (sym (append_cancel_left (flat_map spelling a) [] (flat_map spelling c) (append-nil (flat_map spelling a) ∙ e ∙ flat_map-append spelling a c)))
 

@@ -1,4 +1,4 @@
--- The instruction that bytes spell, read from their fields: a left inverse of the spelling.
+-- The decoder: reads an instruction from the fields of its units. A left inverse of the encoding.
 use Rattle.std.proofs.Common.{ℕ, ◌+◌, ◌*◌, ◌^◌, List, [], ◌∷◌, ◌++◌, map, cond, eqb, ℤ}
 use Rattle.std.specs.Int.{w16, w32, cast_signed}
 use Rattle.std.specs.List.{flat_map}
@@ -23,7 +23,7 @@ use Rattle.rb_insn.specs.Opcodes.{ld, ldx, st, stx, alu, jmp, jmp32, alu64, sour
 use Rattle.rb_insn.proofs.Registers.{reg_of}
 use Rattle.rb_insn.proofs.Units.{Fields}
 
--- what an opcode makes of the fields
+-- a function from fields to an instruction, one for each opcode
 abbrev pub Maker : Type 0
 Maker = Fields → Insn
 
@@ -40,7 +40,7 @@ signed16 n = cast_signed w16 n
 abbrev signed32 : ℕ → ℤ
 signed32 n = cast_signed w32 n
 
--- ---- what the offset, the immediate or the source field says of the operation
+-- ---- what the offset, the immediate or the source field selects
 
 abbrev sign_of : ℕ → Signedness
 sign_of offset = cond (eqb offset 0) Unsigned Signed
@@ -115,6 +115,6 @@ abbrev maker_in : List Row → ℕ → Maker
 maker_in [] opcode = λ f. Exit
 maker_in (r ∷ rs) opcode = cond (eqb r.opcode opcode) r.make (maker_in rs opcode)
 
--- the instruction of the fields
+-- the instruction with these fields
 abbrev pub insn_of : Fields → Insn
 insn_of f = maker_in rows f.opcode f

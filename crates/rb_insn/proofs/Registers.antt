@@ -8,11 +8,11 @@ same_reg n m e h =
     let P : ℕ → Type 0 = λ i. (g : i ≤ 10) → (let r : Reg = record { number = n; bounded = h } in r) ≡ record { number = i; bounded = g } in
     subst P e (λ g. ap (λ (f : n ≤ 10). (let r : Reg = record { number = n; bounded = f } in r)) (le_prop h g))
 
--- registers of one number are one
+-- registers with the same number are equal
 pub reg-by_number : (a b : Reg) → a.number ≡ b.number → a ≡ b
 reg-by_number a b e = same_reg a.number b.number e a.bounded b.bounded
 
--- the register of a number, and r10 above
+-- the register with this number, or r10 if the number is greater
 pub reg_of : ℕ → Reg
 reg_of n = record { number = min n 10; bounded = omega arith }
 

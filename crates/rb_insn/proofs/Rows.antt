@@ -1,4 +1,4 @@
--- What is read of an instruction's fields is the instruction, a lemma for each row.
+-- Decoding the fields of an instruction's encoding returns that instruction: a lemma for each row.
 use Rattle.std.proofs.Common.{◌≡◌, ℕ, ◌+◌, ◌*◌, ◌/◌, ◌%◌, ◌^◌, ◌<◌, ℤ, List, ◌++◌, drop, refl, ap, ◌∙◌, arith}
 use Rattle.std.specs.Int.{w16, w32, cast_signed}
 use Rattle.rb_insn.specs.declared.insn.Width.{Width}
@@ -34,7 +34,7 @@ use Rattle.rb_insn.proofs.Registers.{reg_of, reg_of-number}
 use Rattle.rb_insn.proofs.Units.{fields, fields_at, fields_at-unit, next-second_unit, bits16-bound, bits32-bound, bits16-back, bits32-back}
 use Rattle.rb_insn.proofs.Reading.{insn_of}
 
--- ---- by the opcode alone
+-- ---- rows that the opcode alone determines
 
 binary_k : (w : Width) (op : BinaryOp) (d s o i n : ℕ) → insn_of (fields (operation_opcode (binary_code op) source_k (alu_class w)) d s o i n) ≡ Binary w op (reg_of d) (Immediate (cast_signed w32 i))
 binary_k W32 Add d s o i n = refl
@@ -119,12 +119,12 @@ number d o i n = refl
 ring : (d o i n : ℕ) → insn_of (fields (access_opcode imm_mode double_code ld) d map_by_index o i n) ≡ LoadRing (reg_of d) i
 ring d o i n = refl
 
--- ---- what is read of a spelling
+-- ---- decoding an encoding
 
 abbrev pub read : List ℕ → Insn
 read bytes = insn_of (fields_at bytes)
 
--- the register of a field
+-- register numbers fit their field
 dst16 : (r : Reg) → r.number < 16
 dst16 r = let h = r.bounded in omega arith
 
@@ -146,7 +146,7 @@ swap_bits-bound B16 = omega arith
 swap_bits-bound B32 = omega arith
 swap_bits-bound B64 = omega arith
 
--- the next immediate that is read behind a unit
+-- the next immediate, read after a unit
 abbrev after : List ℕ → ℕ
 after p = little_number 4 (drop 4 p)
 

@@ -1,4 +1,4 @@
--- What the code's signed numbers are, by the definitions.
+-- The code's signed operations agree with the definitions.
 use Rattle.std.proofs.Common.{◌≡◌, ℕ, zero, suc, ◌+◌, ◌-◌, ◌/◌, ◌%◌, ◌^◌, ◌<◌, ◌≤◌, ℤ, pos, negsuc, ◌+ℤ◌, ◌-ℤ◌, ◌*ℤ◌, neg_ℤ, refl, sym, ◌∙◌, ap, arith, w8, w16, w32, w64, ⊎_elim}
 use Rattle.std.proofs.lemmas.Int.{ints, quot-rem, of_z-to_z}
 use Rattle.std.proofs.lemmas.Bool.{cases_lt}
@@ -12,7 +12,7 @@ use Rattle.rb_insn.specs.declared.insn.Width.TheVariants.{W32, W64}
 use Rattle.rb_insn.specs.WholeNumbers.{low_bits, signed_of, wrapped, floor_div, remainder}
 use Rattle.rb_insn.specs.ArithmeticAndJumps.{bits_of}
 
--- a value read as signed is what a cast to the signed type gives
+-- casting a value to the signed type reads it as signed
 pub signed_of-cast_8 : (n : ℕ) → n < 2 ^ 8 → cast_signed w8 n ≡ signed_of 8 n
 unfolding signed_of
 signed_of-cast_8 n small = grind (arith, nat_tests, ints)
@@ -29,24 +29,24 @@ pub signed_of-cast_64 : (n : ℕ) → n < 2 ^ 64 → cast_signed w64 n ≡ signe
 unfolding signed_of
 signed_of-cast_64 n small = grind (arith, nat_tests, ints)
 
--- a value of 32 or 64 bits, read as signed, fits 64 bits
+-- a value of 32 or 64 bits, read as signed, fits a signed 64-bit integer
 pub signed_of-small : (width : Width) (n : ℕ) → n < 2 ^ bits_of width → mag (signed_of (bits_of width) n) < 2 ^ 63
 unfolding signed_of
 signed_of-small W32 n small = grind (arith, nat_tests, ints)
 signed_of-small W64 n small = grind (arith, nat_tests, ints)
 
--- it is 0 only where the value is
+-- it is 0 only if the value is
 pub signed_of-zero : (width : Width) (n : ℕ) → n < 2 ^ bits_of width → signed_of (bits_of width) n ≡ pos 0 → n ≡ 0
 unfolding signed_of
 signed_of-zero W32 n small none = grind (arith, nat_tests, ints)
 signed_of-zero W64 n small none = grind (arith, nat_tests, ints)
 
--- the low bits of what is left of a number in 64 bits
+-- reducing a number modulo 2 ^ 64 keeps its low bits
 pub low_bits-mod : (width : Width) (n : ℕ) → low_bits (bits_of width) (n % 2 ^ 64) ≡ low_bits (bits_of width) n
 low_bits-mod W32 n = omega arith
 low_bits-mod W64 n = omega arith
 
--- the low bits of a signed number's 64 bits are what it wraps to
+-- the low bits of a signed number, cast to 64 bits, are the number wrapped to the width
 pub low_bits-cast : (width : Width) (z : ℤ) → mag z < 2 ^ 64 → low_bits (bits_of width) (cast_unsigned w64 z) ≡ wrapped (bits_of width) z
 unfolding wrapped
 low_bits-cast width (pos n) small = refl
@@ -75,7 +75,7 @@ wrapped-neg W64 zero r small_n small_r sum = omega arith
 wrapped-neg W32 (suc n) r small_n small_r sum = omega arith
 wrapped-neg W64 (suc n) r small_n small_r sum = omega arith
 
--- the shift that keeps the sign rounds down
+-- an arithmetic shift right rounds down
 pub floor_div-shr : (z : ℤ) (k : ℕ) → int_shr z k ≡ floor_div z (2 ^ k)
 unfolding floor_div
 floor_div-shr (pos n) k = refl
@@ -92,14 +92,14 @@ mag-neg : (n : ℕ) → mag (neg_ℤ (pos n)) ≤ n
 mag-neg zero = omega arith
 mag-neg (suc n) = omega arith
 
--- a quotient is at most as large as the dividend
+-- a quotient is no larger in magnitude than the dividend
 pub mag_div : (x y : ℤ) → mag x < 2 ^ 63 → mag (int_div x y) < 2 ^ 64
 mag_div (pos a) (pos b) small = omega (arith, div-le_self a b)
 mag_div (pos a) (negsuc b) small = omega (arith, mag-neg (a / suc b), div-le_self a (suc b))
 mag_div (negsuc a) (pos b) small = omega (arith, mag-neg (suc a / b), div-le_self (suc a) b)
 mag_div (negsuc a) (negsuc b) small = omega (arith, div-le_self (suc a) (suc b))
 
--- what the code's division and remainder leave in 64 bits
+-- the low bits of the code's 64-bit quotient and remainder
 pub wrapped-div : (width : Width) (x y : ℤ) → mag x < 2 ^ 63 → low_bits (bits_of width) (cast_unsigned w64 (int_wrapping_div w64 x y)) ≡ wrapped (bits_of width) (int_div x y)
 wrapped-div width x y small = ap (low_bits (bits_of width)) (of_z-to_z w64 (cast_unsigned w64 (int_div x y)) (fits (int_div x y) (mag_div x y small))) ∙ low_bits-cast width (int_div x y) (mag_div x y small)
   where

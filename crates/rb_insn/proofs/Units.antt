@@ -7,7 +7,7 @@ use Rattle.byteorder.specs.Endian.{little_bytes, little_number}
 use Rattle.byteorder.specs.Numbers.{little_number-reads_back}
 use Rattle.rb_insn.specs.Spelling.{unit, second_unit, bits16, bits32}
 
--- the fields of a first unit, and the next immediate behind it
+-- the fields of a first unit, and the immediate of the unit after it
 pub record Fields : Type 0 where
   pub opcode : ℕ
   pub dst : ℕ
@@ -29,7 +29,7 @@ fields_at bytes = record {
 abbrev pub fields : ℕ → ℕ → ℕ → ℕ → ℕ → ℕ → Fields
 fields opcode dst src offset imm next = record { opcode = opcode; dst = dst; src = src; offset = offset; imm = imm; next = next }
 
--- what is read of a unit is what was spelled
+-- reading an encoded unit returns its fields
 pub fields_at-unit : (opcode dst src offset imm : ℕ) (rest : List ℕ) → dst < 16 → offset < 2 ^ 16 → imm < 2 ^ 32
     → fields_at (unit opcode dst src offset imm ++ rest) ≡ fields opcode dst src offset imm (little_number 4 (drop 4 rest))
 fields_at-unit opcode dst src offset imm rest d o i =
@@ -42,7 +42,7 @@ fields_at-unit opcode dst src offset imm rest d o i =
     ∙ ap (λ (n : ℕ). fields opcode dst src n (little_number 4 (little_bytes 4 imm ++ rest)) (little_number 4 (drop 4 rest))) off
     ∙ ap (λ (n : ℕ). fields opcode dst src offset n (little_number 4 (drop 4 rest))) immediate
 
--- the next immediate of a second unit
+-- the immediate of a second unit
 pub next-second_unit : (next : ℕ) (rest : List ℕ) → next < 2 ^ 32 → little_number 4 (drop 4 (second_unit next ++ rest)) ≡ next
 next-second_unit next rest h = little_number-reads_back 4 next rest h
 

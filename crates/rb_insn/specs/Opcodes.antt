@@ -1,4 +1,4 @@
--- Opcodes, and the fields that say more of an operation, by the tables of RFC 9669, sections 3 to 5.
+-- Opcodes, and the other fields that select an operation, from the tables of RFC 9669, sections 3 to 5.
 use Rattle.std.specs.Prelude.{ℕ, ◌+◌, ◌*◌}
 use Rattle.rb_insn.specs.declared.insn.Width.{Width}
 use Rattle.rb_insn.specs.declared.insn.Width.TheVariants.{W32, W64}
@@ -48,14 +48,14 @@ jmp32 = 6
 abbrev pub alu64 : ℕ
 alu64 = 7
 
--- where the second operand is: K, in the immediate; X, in the source register
+-- where the second operand is: K for the immediate, X for the source register
 abbrev pub source_k : ℕ
 source_k = 0
 
 abbrev pub source_x : ℕ
 source_x = 8
 
--- the opcode of arithmetic and jumps
+-- the opcode of an arithmetic instruction or a jump
 abbrev pub operation_opcode : ℕ → ℕ → ℕ → ℕ
 operation_opcode code source class = 16 * code + source + class
 
@@ -69,7 +69,7 @@ mem_mode = 3
 abbrev pub memsx_mode : ℕ
 memsx_mode = 4
 
--- the opcode of loads and stores
+-- the opcode of a load or a store
 abbrev pub access_opcode : ℕ → ℕ → ℕ → ℕ
 access_opcode mode size class = 32 * mode + 8 * size + class
 
@@ -150,14 +150,14 @@ signed_size_code signed_sizes.Byte = byte_code
 signed_size_code signed_sizes.Half = half_code
 signed_size_code signed_sizes.Word = word_code
 
--- ---- fields that say more of the operation (section 4.1, 4.2)
+-- ---- other fields that select the operation (sections 4.1 and 4.2)
 
 -- signed division has offset 1
 abbrev pub division_offset : Signedness → ℕ
 division_offset Unsigned = 0
 division_offset Signed = 1
 
--- a sign-extending move has as its offset how many bits it reads
+-- the offset of a sign-extending move is the number of bits that it reads
 abbrev pub extend32_offset : Extend32 → ℕ
 extend32_offset extend32.From8 = 8
 extend32_offset extend32.From16 = 16
@@ -167,7 +167,7 @@ extend64_offset extend64.From8 = 8
 extend64_offset extend64.From16 = 16
 extend64_offset extend64.From32 = 32
 
--- a byte swap has as its immediate how many bits it works on
+-- the immediate of a byte swap is the number of bits that it works on
 abbrev pub swap_bits : SwapWidth → ℕ
 swap_bits B16 = 16
 swap_bits B32 = 32

@@ -1,5 +1,5 @@
--- The spelling of instructions as bytes: the encoding and the tables of RFC 9669, the numbers little-endian (own choice
--- of its two byte orders). Stated as sums, a case for each row of the tables.
+-- The encoding of instructions as bytes, by the tables of RFC 9669, with little-endian numbers (own choice of its two
+-- byte orders). Encodings are stated as sums, with one case for each row of the tables.
 use Rattle.std.specs.Prelude.{◌≡◌, ℕ, ◌+◌, ◌*◌, ◌/◌, ◌%◌, ◌^◌, ◌<◌, List, ◌∷◌, ◌++◌, length, FitsSigned, ℤ}
 use Rattle.std.specs.Int.{w16, w32, cast_unsigned}
 use Rattle.std.specs.List.{flat_map, AllByRecursion}
@@ -13,16 +13,16 @@ use Rattle.rb_insn.specs.Units.{units_taken}
 
 -- ---- units (section 3.1, 3.2)
 
--- A unit of eight bytes: the opcode; the destination register in the low half and the source register in the high half
--- of one byte; the offset in two bytes; the immediate in four.
+-- A unit of 8 bytes: the opcode; a byte with the destination register in its low half and the source register in its
+-- high half; the offset in 2 bytes; the immediate in 4.
 abbrev pub unit : ℕ → ℕ → ℕ → ℕ → ℕ → List ℕ
 unit opcode dst src offset imm = opcode ∷ (dst + 16 * src) ∷ (little_bytes 2 offset ++ little_bytes 4 imm)
 
--- The second unit of a wide instruction: four zero bytes, and the next immediate.
+-- The second unit of a wide instruction: four zero bytes, then the second immediate.
 abbrev pub second_unit : ℕ → List ℕ
 second_unit next_imm = 0 ∷ 0 ∷ 0 ∷ 0 ∷ little_bytes 4 next_imm
 
--- signed numbers of 16 and 32 bits stand as their two's complement
+-- signed numbers of 16 and 32 bits, in two's complement
 abbrev pub bits16 : ℤ → ℕ
 bits16 z = cast_unsigned w16 z
 
@@ -31,7 +31,7 @@ bits32 z = cast_unsigned w32 z
 
 -- ---- the rows
 
--- The bytes of each instruction.
+-- The encoding of each instruction.
 abbrev pub spelling : Insn → List ℕ
 spelling (Binary width op dst (Immediate value)) = unit (operation_opcode (binary_code op) source_k (alu_class width)) dst.number 0 0 (bits32 value)
 spelling (Binary width op dst (Register src)) = unit (operation_opcode (binary_code op) source_x (alu_class width)) dst.number src.number 0 0
@@ -56,7 +56,7 @@ spelling (LoadSigned size dst base offset) = unit (access_opcode memsx_mode (sig
 spelling (StoreImmediate size base offset value) = unit (access_opcode mem_mode (size_code size) st) base.number 0 (bits16 offset) (bits32 value)
 spelling (StoreRegister size base offset src) = unit (access_opcode mem_mode (size_code size) stx) base.number src.number (bits16 offset) 0
 
--- ---- what has a spelling: each value of the program's types does, since its numbers are in the ranges of their fields
+-- ---- which instructions have an encoding: all values of the program's types, whose numbers fit their fields
 
 abbrev pub OffsetFits : Insn → Type 0
 OffsetFits (Branch width condition dst operand distance) = FitsSigned w16 distance
@@ -87,26 +87,26 @@ pub record FieldsFit (insn : Insn) : Type 0 where
   pub offset : OffsetFits insn
   pub imm : ImmFits insn
 
--- The bytes spell the instruction.
+-- The bytes are the encoding of the instruction.
 pub record Spells (insn : Insn) (bytes : List ℕ) : Type 0 where
   pub fits : FieldsFit insn
   pub bytes_are : bytes ≡ spelling insn
 
--- The bytes spell the instructions, one after the other.
+-- The bytes are the encodings of the instructions, in order.
 pub record SpellsAll (insns : List Insn) (bytes : List ℕ) : Type 0 where
   pub fit : AllByRecursion FieldsFit insns
   pub bytes_are : bytes ≡ flat_map spelling insns
 
 -- ---- laws
 
--- No spelling begins another: where two begin the same bytes they are one, of one instruction.
+-- The encoding is prefix-free: if two encodings start the same bytes, they are equal and encode the same instruction.
 abbrev pub NoSpellingBeginsAnother : Type 0
 NoSpellingBeginsAnother = (a b : Insn) (s t p q : List ℕ) → Spells a s → Spells b t → s ++ p ≡ t ++ q → (a ≡ b) × (s ≡ t)
 
--- Bytes are spelled by at most one list of instructions.
+-- Bytes encode at most one list of instructions.
 abbrev pub OneListSpells : Type 0
 OneListSpells = (a b : List Insn) (bytes : List ℕ) → SpellsAll a bytes → SpellsAll b bytes → a ≡ b
 
--- A spelling fills the units that its instruction takes.
+-- An encoding fills the units that its instruction takes.
 abbrev pub SpellingsFillUnits : Type 0
 SpellingsFillUnits = (insn : Insn) (bytes : List ℕ) → Spells insn bytes → length bytes ≡ 8 * units_taken insn

@@ -1,4 +1,4 @@
-//! The value that an arithmetic instruction gives.
+//! The results of arithmetic instructions.
 
 ghost use Rattle.std.specs.Prelude.{◌≡◌, ℕ, ◌*◌, ◌^◌, ◌<◌};
 ghost use Rattle.rb_insn.specs.WholeNumbers.{low_bits, reversed_bytes, binary_of};
@@ -11,9 +11,11 @@ use crate::{
 
 #[inline(always)]
 #[tactic(auto, unfolding(crate::specs::ArithmeticAndJumps::value_of))]
-/// The value that an arithmetic instruction gives, where its destination register holds `dst` and its source register `src`
-/// (RFC 9669, sections 4.1 and 4.2). An instruction with an immediate operand does not look at `src`, and a move does not look
-/// at `dst`. Results wrap at the instruction's width, and above it all bits are zero. Takes constant time.
+/// Returns the result of an arithmetic instruction whose destination register holds `dst` and whose source register
+/// holds `src` (RFC 9669, sections 4.1 and 4.2).
+///
+/// An instruction with an immediate operand ignores `src`, and a move ignores `dst`. The result wraps at the
+/// instruction's width; all bits above the width are zero. Takes constant time.
 pub fn value(insn: &Insn, dst: u64, src: u64) -> u64
     requires { IsArithmetic insn.now }
     ensures value { result ≡ value_of insn.now dst src }
@@ -53,8 +55,9 @@ pub fn value(insn: &Insn, dst: u64, src: u64) -> u64
 }
 
 #[inline(always)]
-/// Arithmetic on the low bits of two numbers, as many as the width has. Callers name the width, so that each gets code for it
-/// alone.
+/// Computes on the low bits of two numbers, as many as the width has.
+///
+/// Callers pass a constant width, so the compiler specializes this for each one.
 fn binary_at(width: Width, op: BinaryOp, dst: u64, src: u64) -> u64
     ensures { result ≡ binary_of (bits_of width) op (low_bits (bits_of width) dst) (low_bits (bits_of width) src) }
 {
@@ -63,7 +66,7 @@ fn binary_at(width: Width, op: BinaryOp, dst: u64, src: u64) -> u64
 
 #[inline(always)]
 #[tactic(auto, unfolding(crate::specs::WholeNumbers::binary_of))]
-/// Arithmetic on two numbers of the width.
+/// Computes on two numbers that fit the width.
 fn binary(width: Width, op: BinaryOp, a: u64, b: u64) -> u64
     requires first { a < 2 ^ bits_of width }
     requires second { b < 2 ^ bits_of width }
@@ -86,7 +89,7 @@ fn binary(width: Width, op: BinaryOp, a: u64, b: u64) -> u64
 }
 
 #[tactic(auto, unfolding(crate::specs::WholeNumbers::unsigned_division, crate::specs::WholeNumbers::signed_division, crate::specs::ArithmeticAndJumps::division_of))]
-/// A division of two numbers of the width, or its remainder.
+/// Returns the quotient or the remainder of two numbers that fit the width.
 fn division(sign: Signedness, width: Width, op: DivisionOp, a: u64, b: u64) -> u64
     requires first { a < 2 ^ bits_of width }
     requires second { b < 2 ^ bits_of width }
@@ -109,7 +112,7 @@ fn division(sign: Signedness, width: Width, op: DivisionOp, a: u64, b: u64) -> u
 }
 
 #[tactic(auto, unfolding(crate::specs::ArithmeticAndJumps::sign_extended))]
-/// The low bits, sign-extended to 32 bits.
+/// Returns the low bits of a number, sign-extended to 32 bits.
 fn extended_to_32(from: Extend32, number: u64) -> u64
     ensures { result ≡ sign_extended (extend32_bits from) 32 number }
 {
@@ -121,7 +124,7 @@ fn extended_to_32(from: Extend32, number: u64) -> u64
 }
 
 #[tactic(auto, unfolding(crate::specs::ArithmeticAndJumps::sign_extended))]
-/// The low bits of a number, sign-extended to 64 bits (RFC 9669, section 4.1), as a sign-extending load does too.
+/// Returns the low bits of a number, sign-extended to 64 bits (RFC 9669, section 4.1). Sign-extending loads use it too.
 pub fn sign_extended(from: Extend64, number: u64) -> u64
     ensures { result ≡ sign_extended (extend64_bits from) 64 number }
 {
@@ -134,7 +137,7 @@ pub fn sign_extended(from: Extend64, number: u64) -> u64
 }
 
 #[tactic(auto, unfolding(crate::specs::ArithmeticAndJumps::reordered))]
-/// The low bytes, in the order asked for; all bits above them are zero.
+/// Returns the low bytes in the given byte order; all bits above them are zero.
 fn reordered(order: ByteOrder, width: SwapWidth, number: u64) -> u64
     ensures { result ≡ reordered order (swap_bytes_of width) number }
 {
@@ -144,7 +147,7 @@ fn reordered(order: ByteOrder, width: SwapWidth, number: u64) -> u64
     }
 }
 
-/// The low bytes alone.
+/// Returns the low bytes of a number.
 fn low_bytes(width: SwapWidth, number: u64) -> u64
     ensures { result ≡ low_bits (8 * swap_bytes_of width) number }
 {
@@ -156,7 +159,7 @@ fn low_bytes(width: SwapWidth, number: u64) -> u64
 }
 
 #[tactic(auto, unfolding(crate::specs::WholeNumbers::reversed_bytes))]
-/// The low bytes, in reverse order.
+/// Returns the low bytes of a number in reverse order.
 fn swapped(width: SwapWidth, number: u64) -> u64
     ensures { result ≡ reversed_bytes (swap_bytes_of width) number }
 {

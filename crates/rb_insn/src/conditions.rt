@@ -1,4 +1,4 @@
-//! Whether a conditional instruction jumps.
+//! The conditions of jumps.
 
 ghost use Rattle.std.specs.Prelude.{◌≡◌, ℕ, ◌^◌, ◌<◌};
 ghost use Rattle.rb_insn.specs.WholeNumbers.{condition_holds, low_bits};
@@ -9,8 +9,10 @@ use crate::{Condition, Insn, Width};
 
 #[inline(always)]
 #[tactic(auto, unfolding(crate::specs::ArithmeticAndJumps::jumps_of))]
-/// Whether a conditional instruction jumps, where its destination register holds `dst` and its source register `src`
-/// (RFC 9669, section 4.3). An instruction with an immediate operand does not look at `src`. Takes constant time.
+/// Whether a conditional jump is taken if its destination register holds `dst` and its source register holds `src` (RFC
+/// 9669, section 4.3).
+///
+/// An instruction with an immediate operand ignores `src`. Takes constant time.
 pub fn jumps(insn: &Insn, dst: u64, src: u64) -> bool
     requires { IsConditional insn.now }
     ensures jumps { result ≡ jumps_of insn.now dst src }
@@ -34,8 +36,9 @@ pub fn jumps(insn: &Insn, dst: u64, src: u64) -> bool
 }
 
 #[inline(always)]
-/// Whether the condition holds of the low bits of two numbers, as many as the width has. Callers name the width, so that each
-/// gets code for it alone.
+/// Whether the condition holds for the low bits of two numbers, as many as the width has.
+///
+/// Callers pass a constant width, so the compiler specializes this for each one.
 fn holds_at(width: Width, condition: Condition, dst: u64, src: u64) -> bool
     ensures { result ≡ condition_holds (bits_of width) condition (low_bits (bits_of width) dst) (low_bits (bits_of width) src) }
 {
@@ -44,7 +47,7 @@ fn holds_at(width: Width, condition: Condition, dst: u64, src: u64) -> bool
 
 #[inline(always)]
 #[tactic(auto, unfolding(crate::specs::WholeNumbers::condition_holds))]
-/// Whether the condition holds of two numbers of the width.
+/// Whether the condition holds for two numbers that fit the width.
 fn holds(width: Width, condition: Condition, a: u64, b: u64) -> bool
     requires first { a < 2 ^ bits_of width }
     requires second { b < 2 ^ bits_of width }

@@ -20,7 +20,7 @@ pub enum Operand {
     Register(Reg),
 }
 
-/// Arithmetic on two operands that has neither a sign nor a width of its own (RFC 9669, section 4.1).
+/// An arithmetic operation on two operands that is encoded without a sign or a size of its own (RFC 9669, section 4.1).
 #[derive(Clone, Copy, Debug, PartialEq, Eq)]
 pub enum BinaryOp {
     /// dst + operand
@@ -43,7 +43,7 @@ pub enum BinaryOp {
     Arsh,
 }
 
-/// Division or its remainder (RFC 9669, section 4.1).
+/// A division or a remainder (RFC 9669, section 4.1).
 #[derive(Clone, Copy, Debug, PartialEq, Eq)]
 pub enum DivisionOp {
     /// dst / operand
@@ -81,14 +81,14 @@ pub enum Extend64 {
     From32,
 }
 
-/// What a byte swap instruction converts to (RFC 9669, section 4.2).
+/// The byte order that a byte swap instruction converts to (RFC 9669, section 4.2).
 #[derive(Clone, Copy, Debug, PartialEq, Eq)]
 pub enum ByteOrder {
-    /// To little-endian, on a little-endian host: the low bits stay.
+    /// To little-endian. On a little-endian host, this keeps the low bits.
     Little,
-    /// To big-endian, on a little-endian host: the bytes are swapped.
+    /// To big-endian. On a little-endian host, this swaps the bytes.
     Big,
-    /// The bytes are swapped on every host.
+    /// Swaps the bytes on every host.
     Swap,
 }
 
@@ -110,21 +110,21 @@ pub enum Condition {
     Equal,
     /// dst does not equal the operand
     NotEqual,
-    /// a bit is set in both
+    /// dst and the operand have a set bit in common
     AnyBit,
-    /// dst is above the operand
+    /// dst is greater than the operand, both unsigned
     Above,
-    /// dst is at least the operand
+    /// dst is at least the operand, both unsigned
     AtLeast,
-    /// dst is below the operand
+    /// dst is less than the operand, both unsigned
     Below,
-    /// dst is at most the operand
+    /// dst is at most the operand, both unsigned
     AtMost,
-    /// dst is above the operand, both signed
+    /// dst is greater than the operand, both signed
     SignedAbove,
     /// dst is at least the operand, both signed
     SignedAtLeast,
-    /// dst is below the operand, both signed
+    /// dst is less than the operand, both signed
     SignedBelow,
     /// dst is at most the operand, both signed
     SignedAtMost,
@@ -159,7 +159,7 @@ impl Size {
     ghost use Rattle.rb_insn.specs.Sizes.{byte_count};
 
     #[inline(always)]
-    /// How many bytes a load or a store moves.
+    /// Returns how many bytes a load or a store moves.
     pub fn bytes(self) -> usize
         ensures value { result ≡ byte_count self }
         ensures bound { result ≤ 8 }
@@ -178,7 +178,7 @@ impl SignedSize {
     ghost use Rattle.rb_insn.specs.Sizes.{signed_byte_count};
 
     #[inline(always)]
-    /// How many bytes a sign-extending load moves.
+    /// Returns how many bytes a sign-extending load moves.
     pub fn bytes(self) -> usize
         ensures value { result ≡ signed_byte_count self }
         ensures bound { result ≤ 4 }
@@ -191,7 +191,7 @@ impl SignedSize {
     }
 }
 
-/// An instruction of the profile. Each value has one spelling, of 8 or 16 bytes.
+/// An instruction of the profile. Each value has exactly one encoding, of 8 or 16 bytes.
 #[derive(Clone, Copy, Debug)]
 pub enum Insn {
     /// dst = dst op operand
@@ -232,21 +232,21 @@ pub enum Insn {
         dst: Reg,
         src: Reg,
     },
-    /// dst = its low bits in the byte order asked for
+    /// dst = its low bits in the given byte order
     Reorder {
         order: ByteOrder,
         width: SwapWidth,
         dst: Reg,
     },
-    /// Jumps, by the offset (JA of JMP).
+    /// Jumps by the offset (JA of class JMP).
     Jump {
         distance: i16,
     },
-    /// Jumps, by the immediate (JA of JMP32).
+    /// Jumps by the immediate (JA of class JMP32).
     JumpFar {
         distance: i32,
     },
-    /// Jumps where the condition holds.
+    /// Jumps if the condition holds.
     Branch {
         width: Width,
         condition: Condition,
@@ -254,18 +254,18 @@ pub enum Insn {
         operand: Operand,
         distance: i16,
     },
-    /// Calls the helper of this number.
+    /// Calls the helper with this number.
     Call {
         helper: u32,
     },
-    /// Ends the program with r0.
+    /// Ends the program; r0 is its result.
     Exit,
-    /// dst = a number of 64 bits (wide)
+    /// dst = a 64-bit number (wide)
     LoadNumber {
         dst: Reg,
         value: u64,
     },
-    /// dst = the ring of this number (wide)
+    /// dst = the ring with this number (wide)
     LoadRing {
         dst: Reg,
         ring: u32,
@@ -305,7 +305,7 @@ impl Insn {
     ghost use Rattle.rb_insn.specs.Units.{units_taken};
 
     #[inline(always)]
-    /// How many units of eight bytes the instruction takes: 2 where it is wide, else 1.
+    /// Returns how many 8-byte units the instruction takes: 2 if it is wide, otherwise 1.
     pub fn units(&self) -> usize
         ensures { result ≡ units_taken self.now }
     {

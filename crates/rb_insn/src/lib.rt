@@ -1,13 +1,18 @@
-//! The eBPF instructions of the profile as values, the bytes that spell them and what their arithmetic gives (RFC 9669), for whoever reads, writes
-//! or runs programs. The profile is the base set of 64 and 32 bits with division, without atomics, calls of local functions
-//! and the packet instructions. Each value of `Insn` has one spelling: `Insn::spell` writes its 8 or 16 bytes, and
-//! `spelling_laws` say that no spelling begins another, so that bytes are spelled by at most one list of instructions.
-//! `opcodes` has the numbers of the RFC's tables: classes, codes, modes and sizes.
+//! The eBPF instructions of the profile as values, with their encoding and their arithmetic (RFC 9669), for programs
+//! that read, write or run eBPF.
 //!
-//! `value` is an arithmetic instruction's result, and `jumps` whether a conditional jump jumps (RFC 9669, section 4): for the
-//! interpreter and for the verifier, which folds known numbers by the same functions. A result wraps at the instruction's width, shift counts are
-//! taken modulo that width, and division by zero has the results that the RFC fixes. Both take constant time and are total: where the RFC leaves
-//! the quotient of the least number and -1 open, it is the least number itself.
+//! The profile is the base set of 64-bit and 32-bit instructions with division. It excludes atomics, calls of local
+//! functions and the packet instructions.
+//!
+//! Each value of `Insn` has one encoding: `Insn::spell` writes its 8 or 16 bytes. By `spelling_laws`, the encoding is
+//! prefix-free, so bytes encode at most one list of instructions. `opcodes` has the numbers from the RFC's tables:
+//! classes, codes, modes and sizes.
+//!
+//! `value` returns the result of an arithmetic instruction, and `jumps` whether a conditional jump is taken (RFC 9669,
+//! section 4). The interpreter uses both, and so does the verifier, to fold constants. A result wraps at the
+//! instruction's width, shift counts are taken modulo that width, and division by zero has the results that the RFC
+//! specifies. The RFC leaves open the quotient of the least number and -1; here it is the least number itself. Both
+//! functions are total and take constant time.
 #![tactic(auto)]
 
 mod arithmetic;

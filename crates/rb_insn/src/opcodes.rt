@@ -1,6 +1,8 @@
-//! Opcodes, by the tables of RFC 9669, sections 3 to 5. In arithmetic and jumps the high four bits are the code, bit 3
-//! the source, and the low three bits the class; in loads and stores the high three bits are the mode, the next two the
-//! size, and the low three bits the class.
+//! Opcodes, from the tables of RFC 9669, sections 3 to 5.
+//!
+//! In arithmetic and jumps, the high four bits are the code, bit 3 is the source, and the low three bits are the class.
+//! In loads and stores, the high three bits are the mode, the next two are the size, and the low three bits are the
+//! class.
 
 ghost use Rattle.std.specs.Prelude.{◌≡◌, ◌<◌, ◌≤◌};
 ghost use Rattle.rb_insn.specs.Opcodes.{
@@ -33,13 +35,13 @@ pub const LDX: u8 = 1;
 pub const ST: u8 = 2;
 /// Class: stores of a register.
 pub const STX: u8 = 3;
-/// Class: arithmetic on 32 bits.
+/// Class: 32-bit arithmetic.
 pub const ALU: u8 = 4;
 /// Class: jumps that compare 64 bits.
 pub const JMP: u8 = 5;
 /// Class: jumps that compare 32 bits.
 pub const JMP32: u8 = 6;
-/// Class: arithmetic on 64 bits.
+/// Class: 64-bit arithmetic.
 pub const ALU64: u8 = 7;
 
 /// Source (bit 3): the second operand is the immediate.
@@ -80,27 +82,27 @@ pub const END: u8 = 13;
 pub const JA: u8 = 0;
 /// Jump code: dst equals the operand.
 pub const JEQ: u8 = 1;
-/// Jump code: dst is above the operand.
+/// Jump code: dst is greater than the operand, both unsigned.
 pub const JGT: u8 = 2;
-/// Jump code: dst is at least the operand.
+/// Jump code: dst is at least the operand, both unsigned.
 pub const JGE: u8 = 3;
-/// Jump code: a bit is set in both.
+/// Jump code: dst and the operand have a set bit in common.
 pub const JSET: u8 = 4;
 /// Jump code: dst does not equal the operand.
 pub const JNE: u8 = 5;
-/// Jump code: dst is above the operand, both signed.
+/// Jump code: dst is greater than the operand, both signed.
 pub const JSGT: u8 = 6;
 /// Jump code: dst is at least the operand, both signed.
 pub const JSGE: u8 = 7;
-/// Jump code: a call of a helper.
+/// Jump code: a helper call.
 pub const CALL: u8 = 8;
-/// Jump code: the program's end.
+/// Jump code: the end of the program.
 pub const EXIT: u8 = 9;
-/// Jump code: dst is below the operand.
+/// Jump code: dst is less than the operand, both unsigned.
 pub const JLT: u8 = 10;
-/// Jump code: dst is at most the operand.
+/// Jump code: dst is at most the operand, both unsigned.
 pub const JLE: u8 = 11;
-/// Jump code: dst is below the operand, both signed.
+/// Jump code: dst is less than the operand, both signed.
 pub const JSLT: u8 = 12;
 /// Jump code: dst is at most the operand, both signed.
 pub const JSLE: u8 = 13;
@@ -124,7 +126,7 @@ pub const DW: u8 = 3;
 /// The source field of a wide instruction that loads a map by its index.
 pub const MAP_BY_INDEX: u8 = 5;
 
-/// The opcode of arithmetic or a jump.
+/// Returns the opcode of an arithmetic instruction or a jump.
 pub(crate) fn operation_opcode(code: u8, source: u8, class: u8) -> u8
     requires code { code < 16 }
     requires source { source ≤ 8 }
@@ -134,7 +136,7 @@ pub(crate) fn operation_opcode(code: u8, source: u8, class: u8) -> u8
     16 * code + source + class
 }
 
-/// The opcode of a load or store.
+/// Returns the opcode of a load or a store.
 pub(crate) fn access_opcode(mode: u8, size: u8, class: u8) -> u8
     requires mode { mode < 8 }
     requires size { size < 4 }
@@ -145,7 +147,7 @@ pub(crate) fn access_opcode(mode: u8, size: u8, class: u8) -> u8
 }
 
 impl Width {
-    /// The class of an arithmetic instruction.
+    /// Returns the class of an arithmetic instruction.
     pub(crate) fn alu_class(self) -> u8
         ensures value { result ≡ alu_class self }
         ensures bound { result < 8 }
@@ -156,7 +158,7 @@ impl Width {
         }
     }
 
-    /// The class of a conditional jump.
+    /// Returns the class of a conditional jump.
     pub(crate) fn jump_class(self) -> u8
         ensures value { result ≡ jump_class self }
         ensures bound { result < 8 }
@@ -169,7 +171,7 @@ impl Width {
 }
 
 impl BinaryOp {
-    /// The operation's code.
+    /// Returns the operation's code.
     pub(crate) fn code(self) -> u8
         ensures value { result ≡ binary_code self }
         ensures bound { result < 16 }
@@ -189,7 +191,7 @@ impl BinaryOp {
 }
 
 impl DivisionOp {
-    /// The operation's code.
+    /// Returns the operation's code.
     pub(crate) fn code(self) -> u8
         ensures value { result ≡ division_code self }
         ensures bound { result < 16 }
@@ -202,7 +204,7 @@ impl DivisionOp {
 }
 
 impl Signedness {
-    /// The offset of a division.
+    /// Returns the offset of a division, which selects the sign.
     pub(crate) fn offset(self) -> u16
         ensures { result ≡ division_offset self }
     {
@@ -214,7 +216,7 @@ impl Signedness {
 }
 
 impl Extend32 {
-    /// How many bits the move reads, which is its offset.
+    /// Returns the offset of the move, which is how many bits it reads.
     pub(crate) fn bits(self) -> u16
         ensures { result ≡ extend32_offset self }
     {
@@ -226,7 +228,7 @@ impl Extend32 {
 }
 
 impl Extend64 {
-    /// How many bits the move reads, which is its offset.
+    /// Returns the offset of the move, which is how many bits it reads.
     pub(crate) fn bits(self) -> u16
         ensures { result ≡ extend64_offset self }
     {
@@ -239,7 +241,7 @@ impl Extend64 {
 }
 
 impl SwapWidth {
-    /// How many bits the byte swap works on, which is its immediate.
+    /// Returns the immediate of the byte swap, which is how many bits it works on.
     pub(crate) fn bits(self) -> u32
         ensures { result ≡ swap_bits self }
     {
@@ -252,7 +254,7 @@ impl SwapWidth {
 }
 
 impl ByteOrder {
-    /// The opcode of the byte swap.
+    /// Returns the opcode of the byte swap.
     pub(crate) fn opcode(self) -> u8
         ensures { result ≡ reorder_opcode self }
     {
@@ -265,7 +267,7 @@ impl ByteOrder {
 }
 
 impl Condition {
-    /// The condition's code.
+    /// Returns the condition's code.
     pub(crate) fn code(self) -> u8
         ensures value { result ≡ condition_code self }
         ensures bound { result < 16 }
@@ -287,7 +289,7 @@ impl Condition {
 }
 
 impl Size {
-    /// The size's code.
+    /// Returns the size's code.
     pub(crate) fn code(self) -> u8
         ensures value { result ≡ size_code self }
         ensures bound { result < 4 }
@@ -302,7 +304,7 @@ impl Size {
 }
 
 impl SignedSize {
-    /// The size's code.
+    /// Returns the size's code.
     pub(crate) fn code(self) -> u8
         ensures value { result ≡ signed_size_code self }
         ensures bound { result < 4 }

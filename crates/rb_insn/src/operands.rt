@@ -1,4 +1,4 @@
-//! Operands, at the width of an instruction.
+//! Operands at the width of an instruction.
 
 ghost use Rattle.std.specs.Prelude.{◌≡◌, ◌%◌, ◌^◌, ◌<◌};
 ghost use Rattle.rb_insn.specs.WholeNumbers.{low_bits, signed_of};
@@ -7,7 +7,7 @@ ghost use Rattle.rb_insn.specs.ArithmeticAndJumps.{bits_of, operand_of};
 use crate::{Operand, Width};
 
 #[inline(always)]
-/// The second operand as a number of 64 bits: the immediate, sign-extended, or the source register.
+/// Returns the second operand as a 64-bit number: the sign-extended immediate, or the source register.
 pub(crate) fn operand_value(operand: Operand, src: u64) -> u64
     ensures { result ≡ operand_of operand src }
 {
@@ -18,7 +18,7 @@ pub(crate) fn operand_value(operand: Operand, src: u64) -> u64
 }
 
 #[inline(always)]
-/// A shift's count: the operand modulo the number of the width's bits.
+/// Returns a shift count: the operand modulo the width in bits.
 pub(crate) fn shift_count(width: Width, operand: u64) -> u32
     ensures { result ≡ operand % bits_of width }
 {
@@ -29,7 +29,7 @@ pub(crate) fn shift_count(width: Width, operand: u64) -> u32
 }
 
 #[inline(always)]
-/// The low bits, as many as the width has.
+/// Returns the low bits of a number, as many as the width has.
 pub(crate) fn low_bits(width: Width, number: u64) -> u64
     ensures { result ≡ low_bits (bits_of width) number }
 {
@@ -40,7 +40,7 @@ pub(crate) fn low_bits(width: Width, number: u64) -> u64
 }
 
 #[inline(always)]
-/// A number of the width, read as signed.
+/// Returns a number that fits the width, read as signed.
 pub(crate) fn signed(width: Width, number: u64) -> i64
     requires { number < 2 ^ bits_of width }
     ensures { result ≡ signed_of (bits_of width) number }

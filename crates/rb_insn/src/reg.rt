@@ -23,18 +23,18 @@ impl Reg {
     pub const R4: Reg = Reg { number: 4 };
     /// The fifth argument.
     pub const R5: Reg = Reg { number: 5 };
-    /// The first of the registers that survive a call.
+    /// The first of the registers that a call preserves.
     pub const R6: Reg = Reg { number: 6 };
-    /// Survives a call.
+    /// Preserved by calls.
     pub const R7: Reg = Reg { number: 7 };
-    /// Survives a call.
+    /// Preserved by calls.
     pub const R8: Reg = Reg { number: 8 };
-    /// Survives a call.
+    /// Preserved by calls.
     pub const R9: Reg = Reg { number: 9 };
-    /// The stack; no instruction writes it.
+    /// The frame pointer, which points to the end of the stack; no instruction writes it.
     pub const R10: Reg = Reg { number: 10 };
 
-    /// The register of a number: none above 10.
+    /// Returns the register with this number, or `None` if the number is above 10.
     pub fn new(number: u8) -> Option<Reg>
         ensures found { IsSome result ↔ (number ≤ 10) }
         ensures value { IfSome result (λ reg. reg.number ≡ number) }
@@ -46,7 +46,7 @@ impl Reg {
         }
     }
 
-    /// The register's number, as a place in an array of eleven.
+    /// Returns the register's number as an index into an array of eleven.
     pub fn index(self) -> usize
         ensures value { result ≡ self.number }
         ensures bound { result ≤ 10 }

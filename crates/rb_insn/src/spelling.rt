@@ -1,5 +1,5 @@
-//! The bytes of an instruction (RFC 9669, section 3): the fields of its units, each a column of the tables, and how they
-//! are written.
+//! The encoding of an instruction as bytes (RFC 9669, section 3): the fields of its units, each a column of the tables,
+//! and how they are written.
 
 ghost use Rattle.std.specs.Prelude.{◌≡◌, ◌+◌, ◌*◌, ◌<◌, ◌≤◌, ◌%◌, ◌/◌, ◌^◌, ◌++◌, ◌∷◌, [], length, take, drop, slice_index, MatchOption};
 ghost use Rattle.byteorder.specs.Endian.{little_bytes};
@@ -15,7 +15,7 @@ use crate::opcodes::{
 use byteorder::{ByteOrder, LittleEndian};
 
 impl Operand {
-    /// Where the operand is: K or X.
+    /// Returns the source bit: K or X.
     fn source(self) -> u8
         ensures { result ≡ source_of self }
     {
@@ -25,7 +25,7 @@ impl Operand {
         }
     }
 
-    /// The source field.
+    /// Returns the source register field.
     fn src(self) -> u8
         ensures { result ≡ src_of self }
     {
@@ -35,7 +35,7 @@ impl Operand {
         }
     }
 
-    /// The immediate.
+    /// Returns the immediate field.
     fn imm(self) -> u32
         ensures value { result ≡ imm_of self }
         ensures fits { OperandFits self }
@@ -48,7 +48,7 @@ impl Operand {
 }
 
 impl Insn {
-    /// The opcode.
+    /// Returns the opcode.
     fn opcode(&self) -> u8
         ensures { result ≡ slice_index (spelling self.now) 0 }
     {
@@ -96,7 +96,7 @@ impl Insn {
         }
     }
 
-    /// The destination field.
+    /// Returns the destination register field.
     fn dst(&self) -> u8
         ensures value { result ≡ slice_index (spelling self.now) 1 % 16 }
         ensures bound { result ≤ 10 }
@@ -119,7 +119,7 @@ impl Insn {
         }
     }
 
-    /// The source field.
+    /// Returns the source register field.
     fn src(&self) -> u8
         ensures value { result ≡ slice_index (spelling self.now) 1 / 16 }
         ensures bound { result ≤ 10 }
@@ -145,7 +145,7 @@ impl Insn {
         }
     }
 
-    /// The offset.
+    /// Returns the offset field.
     fn offset(&self) -> u16
         ensures value { take 2 (drop 2 (spelling self.now)) ≡ little_bytes 2 result }
         ensures fits { OffsetFits self.now }
@@ -172,7 +172,7 @@ impl Insn {
         }
     }
 
-    /// The immediate.
+    /// Returns the immediate field.
     fn imm(&self) -> u32
         ensures value { take 4 (drop 4 (spelling self.now)) ≡ little_bytes 4 result }
         ensures fits { ImmFits self.now }
@@ -199,7 +199,7 @@ impl Insn {
         }
     }
 
-    /// The immediate of the second unit, where there is one.
+    /// Returns the immediate of the second unit, if there is one.
     fn next_imm(&self) -> Option<u32>
         ensures { MatchOption result (drop 8 (spelling self.now) ≡ []) (λ next. drop 8 (spelling self.now) ≡ second_unit next) }
     {
@@ -210,8 +210,10 @@ impl Insn {
         }
     }
 
-    /// Writes the bytes that spell the instruction to the front of `out`, and answers how many: 16 where it is wide, else
-    /// 8. The rest of `out` stays.
+    /// Writes the instruction's encoding to the front of `out` and returns its length: 16 bytes if it is wide,
+    /// otherwise 8.
+    ///
+    /// The rest of `out` is unchanged.
     pub fn spell(&self, out: &mut [u8; 16]) -> usize
         ensures spelled { Spells self.now (take result out.new) }
         ensures rest { drop result out.new ≡ drop result out.old }
@@ -235,7 +237,7 @@ impl Insn {
     }
 }
 
-/// Writes a unit of eight bytes.
+/// Writes one unit of 8 bytes.
 fn write_unit(out: &mut [u8], opcode: u8, registers: u8, offset: u16, imm: u32)
     requires { length out.old ≡ 8 }
     ensures { out.new ≡ opcode ∷ registers ∷ (little_bytes 2 offset ++ little_bytes 4 imm) }
@@ -246,8 +248,10 @@ fn write_unit(out: &mut [u8], opcode: u8, registers: u8, offset: u16, imm: u32)
     LittleEndian::write_u32(&mut out[4..8], imm);
 }
 
-/// What the spelling of programs rests on: an instruction's spelling fills its units; no spelling begins another; bytes are
-/// spelled by at most one list of instructions. For the proofs of callers; it does nothing.
+/// The laws of the encoding: an instruction's encoding fills its units, no encoding is a proper prefix of another, and
+/// bytes encode at most one list of instructions.
+///
+/// For the proofs of callers; it does nothing at run time.
 pub fn spelling_laws()
     ensures fills_units { SpellingsFillUnits }
     ensures prefix_free { NoSpellingBeginsAnother }

@@ -9,7 +9,7 @@ use byteorder::{ByteOrder, LittleEndian};
 use rb_insn::{Extend64, SignedSize, Size, sign_extended};
 
 #[inline(always)]
-/// The number in some bytes.
+/// Returns the number in the given bytes.
 pub(crate) fn number_in(size: Size, bytes: &[u8]) -> u64
     requires { length bytes.now ≡ byte_count size }
     ensures { result ≡ little_number (byte_count size) bytes.now }
@@ -22,7 +22,7 @@ pub(crate) fn number_in(size: Size, bytes: &[u8]) -> u64
     }
 }
 
-/// The number in some bytes, sign-extended to 64 bits.
+/// Returns the number in the given bytes, sign-extended to 64 bits.
 pub(crate) fn signed_number_in(size: SignedSize, bytes: &[u8]) -> u64
     requires { length bytes.now ≡ signed_byte_count size }
     ensures { result ≡ signed_number (signed_byte_count size) bytes.now }

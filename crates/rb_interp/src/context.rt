@@ -1,13 +1,13 @@
-//! Bytes that are only read.
+//! Read-only views of bytes.
 
 ghost use Rattle.std.specs.Prelude.{◌≡◌, ℕ, List};
 
-/// A view of bytes that are only read, as a program's context.
+/// A read-only view of bytes, such as a program's context.
 pub trait Context {
-    /// The bytes that a view shows.
+    /// The bytes of the view.
     ghost shown: { Self → List ℕ };
 
-    /// Lends the bytes that the view shows, for reading.
+    /// Returns the bytes of the view.
     fn bytes(&self) -> &[u8]
         ensures { result.now ≡ shown self.now };
 }

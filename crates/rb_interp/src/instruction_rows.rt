@@ -1,4 +1,4 @@
-//! What each kind of instruction does, but for the calls.
+//! Executes each kind of instruction except calls.
 
 ghost use Rattle.std.specs.Prelude.{◌≡◌, ◌≢◌, ◌<◌, ◌^◌, None, length};
 ghost use Rattle.rb_interp.specs.inner.ExecutedInstruction.{IsBranchBy};
@@ -26,7 +26,7 @@ use rb_semantics::{MemoryRegion, Value};
 
 impl<C: Context, R: Lent> Cpu<C, R> {
     #[inline(always)]
-    /// A move of what a register holds: a number, a pointer or a ring.
+    /// Executes a move of the value of a register: a number, a pointer or a ring.
     pub(crate) fn execute_copy(&mut self, insn: &Insn, dst: Reg, src: Reg)
         requires unit { self.old.unit < 2 ^ 31 }
         requires meant { let s = state_of R.bytes_of C.shown self.old in execute_copy insn.now dst (register s src.number) s ≢ Stuck }
@@ -37,7 +37,7 @@ impl<C: Context, R: Lent> Cpu<C, R> {
     }
 
     #[inline(always)]
-    /// Arithmetic on two numbers.
+    /// Executes arithmetic on two numbers.
     pub(crate) fn execute_compute(&mut self, insn: &Insn, dst: Reg, a: Value, b: Value)
         requires unit { self.old.unit < 2 ^ 31 }
         requires arithmetic { IsArithmetic insn.now }
@@ -57,8 +57,9 @@ impl<C: Context, R: Lent> Cpu<C, R> {
     }
 
     #[inline(always)]
-    /// A sum or a difference that moves a pointer's offset, or arithmetic on two numbers: the register's number changes, and its
-    /// kind is not looked at.
+    /// Executes an addition or a subtraction that may move a pointer, or arithmetic on two numbers.
+    ///
+    /// It changes the number of the register, which is the offset of a pointer, without reading its kind.
     pub(crate) fn execute_arithmetic(
         &mut self,
         insn: &Insn,
@@ -80,7 +81,7 @@ impl<C: Context, R: Lent> Cpu<C, R> {
     }
 
     #[inline(always)]
-    /// A load that zero-extends, or one of a pointer that is kept on the stack.
+    /// Executes a load that zero-extends, or loads a pointer from the stack.
     pub(crate) fn execute_load(
         &mut self,
         insn: &Insn,
@@ -113,7 +114,7 @@ impl<C: Context, R: Lent> Cpu<C, R> {
         }
     }
 
-    /// A load that sign-extends.
+    /// Executes a load that sign-extends.
     pub(crate) fn execute_load_signed(
         &mut self,
         insn: &Insn,
@@ -143,7 +144,7 @@ impl<C: Context, R: Lent> Cpu<C, R> {
     }
 
     #[inline(always)]
-    /// A store of a register: of a number, or of a pointer that the stack keeps.
+    /// Executes a store of a register: of a number to any part, or of a pointer to the stack.
     pub(crate) fn store_register(
         &mut self,
         insn: &Insn,
@@ -169,7 +170,7 @@ impl<C: Context, R: Lent> Cpu<C, R> {
         }
     }
 
-    /// A store of a pointer, which the stack keeps.
+    /// Stores a pointer on the stack.
     fn keep(&mut self, insn: &Insn, size: Size, base: Value, offset: i16, pointer: Value)
         requires unit { self.old.unit < 2 ^ 31 }
         requires near { IsNearValue base }
@@ -197,7 +198,7 @@ impl<C: Context, R: Lent> Cpu<C, R> {
     }
 
     #[inline(always)]
-    /// A store of a number.
+    /// Stores a number.
     pub(crate) fn store(&mut self, insn: &Insn, size: Size, base: Value, offset: i16, from: Value)
         requires unit { self.old.unit < 2 ^ 31 }
         requires near { IsNearValue base }
@@ -224,7 +225,7 @@ impl<C: Context, R: Lent> Cpu<C, R> {
     }
 
     #[inline(always)]
-    /// A conditional jump on two numbers, or a test of a pointer to a record against null.
+    /// Executes a conditional jump on two numbers, or a null test of a record pointer.
     pub(crate) fn execute_compare(
         &mut self,
         insn: &Insn,
@@ -274,8 +275,9 @@ impl<C: Context, R: Lent> Cpu<C, R> {
     }
 
     #[inline(always)]
-    /// A conditional jump on two numbers: the kinds of what the registers hold are not looked at. The caller names the distance, so that
-    /// it is not looked for in the instruction.
+    /// Executes a conditional jump on two numbers, without reading the kinds of the registers.
+    ///
+    /// The caller passes the distance, so it is not read from the instruction.
     pub(crate) fn execute_number_compare(
         &mut self,
         insn: &Insn,
@@ -295,7 +297,7 @@ impl<C: Context, R: Lent> Cpu<C, R> {
         self.along_branch(insn, jumps(insn, a, b), distance);
     }
 
-    /// The result of the program.
+    /// Returns the result of the program.
     pub(crate) fn result(&self) -> u64
         requires { execute_exit (register (state_of R.bytes_of C.shown self.now) 0) ≢ Stuck }
         ensures { execute_exit (register (state_of R.bytes_of C.shown self.now) 0) ≡ Ends result }

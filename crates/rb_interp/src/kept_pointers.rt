@@ -9,7 +9,7 @@ use arrayvec::ArrayVec;
 use rb_semantics::{MemoryRegion, Value};
 use std::marker::Model;
 
-/// A pointer or a ring that is kept, under its place.
+/// A pointer or a ring on the stack, with its place (an aligned 8-byte slot).
 #[derive(Clone, Copy, Debug)]
 pub struct KeptPointer {
     pub place: u8,
@@ -25,7 +25,8 @@ impl Default for KeptPointer {
     }
 }
 
-/// The pointers on the stack, at most one at each of its 64 places. Contracts see them under their places, the newest first.
+/// The pointers on the stack, at most one at each of its 64 places. Contracts see them with their places, the newest
+/// first.
 #[derive(Drop)]
 pub(crate) struct KeptPointers {
     entries: ArrayVec<KeptPointer, 64>,
@@ -42,7 +43,7 @@ impl Model for KeptPointers {
     ghost invariant = { λ k. AreAtPlaces 64 (pointers_of k.entries.items) };
 }
 
-/// Whether a place has one of the `len` bytes from byte `at` on.
+/// Whether a place overlaps the `len` bytes from byte `at` on.
 fn touches_place(at: usize, len: usize, place: u8) -> bool
     ensures { result ≡ touches at len place }
 {
@@ -50,7 +51,7 @@ fn touches_place(at: usize, len: usize, place: u8) -> bool
     at < first + 8 && 0 < len && (first < at || first - at < len)
 }
 
-/// The first entry whose place has one of the `len` bytes from byte `at` on.
+/// Returns the index of the first entry whose place overlaps the `len` bytes from byte `at` on.
 fn first_touched(entries: &[KeptPointer], at: usize, len: usize) -> Option<usize>
     ensures found { IfSome result (λ i. (i < length entries.now) × ((d : KeptPointer) → touches at len (slice_index_or entries.now i d).place ≡ true)) }
     ensures none { IfNone result (is_pointer_among at len (pointers_of entries.now) ≡ false) }
@@ -64,7 +65,7 @@ fn first_touched(entries: &[KeptPointer], at: usize, len: usize) -> Option<usize
 }
 
 #[inline(always)]
-/// Removes the entries whose places have one of the `len` bytes from byte `at` on.
+/// Removes the entries whose places overlap the `len` bytes from byte `at` on.
 fn remove_touched(entries: &mut ArrayVec<KeptPointer, 64>, at: usize, len: usize)
     ensures { entries.new.items ≡ filter (entry_left at len) entries.old.items }
 {
@@ -74,7 +75,7 @@ fn remove_touched(entries: &mut ArrayVec<KeptPointer, 64>, at: usize, len: usize
 }
 
 #[inline(never)]
-/// Looks at each of the entries, and removes those whose places have one of the `len` bytes from byte `at` on.
+/// Removes, one by one, the entries whose places overlap the `len` bytes from byte `at` on.
 fn remove_each_touched(entries: &mut ArrayVec<KeptPointer, 64>, at: usize, len: usize)
     ensures { entries.new.items ≡ filter (entry_left at len) entries.old.items }
 {
@@ -83,7 +84,7 @@ fn remove_each_touched(entries: &mut ArrayVec<KeptPointer, 64>, at: usize, len: 
     }
 }
 
-/// What the entries keep at a place.
+/// Returns the pointer that the entries hold at a place.
 fn kept_at(entries: &[KeptPointer], place: usize) -> Option<Value>
     ensures { result ≡ pointer_at place (pointers_of entries.now) }
 {
@@ -100,7 +101,7 @@ impl KeptPointers {
     ghost use Rattle.rb_semantics.specs.StackPointers.{pointer_at};
     ghost use Rattle.rb_interp.specs.inner.KeptPointers.{pointers_written, beginning_at};
 
-    /// No pointers.
+    /// Returns an empty set of pointers.
     pub(crate) fn new() -> KeptPointers
         ensures { result ≡ [] }
     {
@@ -109,7 +110,7 @@ impl KeptPointers {
         }
     }
 
-    /// No pointers from here on.
+    /// Removes all pointers.
     pub(crate) fn clear(&mut self)
         ensures { self.new ≡ [] }
     {
@@ -117,7 +118,7 @@ impl KeptPointers {
     }
 
     #[inline(always)]
-    /// The pointer at the place that begins at a byte of the stack, where one does.
+    /// Returns the pointer at the place that begins at a byte of the stack, if there is one.
     pub(crate) fn beginning(&self, byte: i64) -> Option<Value>
         ensures { result ≡ beginning_at byte self.now }
     {
@@ -128,7 +129,7 @@ impl KeptPointers {
     }
 
     #[inline(never)]
-    /// The same, where some are kept.
+    /// Returns the same if the set is not empty.
     fn beginning_among(&self, byte: i64) -> Option<Value>
         ensures { result ≡ beginning_at byte self.now }
     {
@@ -139,7 +140,8 @@ impl KeptPointers {
     }
 
     #[inline(always)]
-    /// The `len` bytes from byte `at` of a part on are written: no place of the stack that has one of them has a pointer then.
+    /// Updates the pointers for a write of the `len` bytes from byte `at` of a part on: places of the stack that
+    /// overlap them lose their pointers.
     pub(crate) fn write(&mut self, part: MemoryRegion, at: usize, len: usize)
         ensures { self.new ≡ pointers_written part at len self.old }
     {
@@ -150,7 +152,7 @@ impl KeptPointers {
         }
     }
 
-    /// Keeps a pointer at a place that has none.
+    /// Stores a pointer at a place that has none.
     pub(crate) fn keep(&mut self, place: u8, value: Value)
         requires inside { place < 64 }
         requires empty { pointer_at place self.old ≡ None }

@@ -1,25 +1,27 @@
-//! The interpreter, for hosts that run verified programs over lent memory and helpers. `run` runs a program to its end: its
-//! result, and the calls that it makes of the `Helpers`, are those of the program's meaning (`rb_semantics`, after RFC
-//! 9669), and it is never stuck. A `Machine` does it one instruction at a time: `step` is one step of the meaning, a call
-//! comes out as a `Request`, and `answer` goes on with its `Answer`. A step takes constant time and no memory, and a run
-//! has at most as many steps as the program has units.
+//! The interpreter, for hosts that run verified programs over borrowed memory and their own helpers.
+//!
+//! `run` runs a program to its end. Its result and the calls that it makes to the `Helpers` are those of the program's
+//! semantics (`rb_semantics`, after RFC 9669), and it is never stuck. A `Machine` runs a program one instruction at a
+//! time: `step` is one step of the semantics and returns a helper call as a `Request`; `answer` resumes the program
+//! with its `Answer`. A step takes constant time and allocates nothing, and a run makes at most as many steps as the
+//! program has units.
 //!
 //! # Helpers
 //!
-//! `Helpers` is the interface of the ring buffer helpers that a program calls (bpf-helpers(7): bpf_ringbuf_output, _reserve, _submit, _discard and
-//! _query): each call adds one `Done` with its arguments and its
-//! answer to a trace, for which there is room beforehand, and a refused submit or discard hands the very record back.
-//! `Listed` answers from a list, for tests and examples. The helpers' numbers are those of Linux, and failures are its
-//! error numbers, negated.
+//! `Helpers` is the interface of the ring buffer helpers that a program calls (bpf-helpers(7): bpf_ringbuf_output,
+//! _reserve, _submit, _discard and _query). Each call appends one `Done` with its arguments and its answer to a trace,
+//! which has room for it, and a refused submit or discard returns the same record. `Listed` takes its answers from a
+//! list, for tests and examples. The helpers' numbers are those of Linux, and failures are its error numbers, negated.
 //!
 //! # Memory
 //!
-//! `Parts` are the disjoint parts of memory that a program reaches: its stack of 512 bytes (Linux include/linux/filter.h), its context,
-//! which is only read, and at most four records in slots. It lends ranges of them.
+//! `Parts` are the disjoint parts of memory that a program can access: its stack of 512 bytes (Linux
+//! include/linux/filter.h), its context, which is read-only, and at most four records in slots. Callers borrow ranges
+//! of them.
 //!
-//! Proved: a loan leaves what was written in its own range and changes nothing else; a range is `Outside` exactly where it does not
-//! lie inside its part; and `give` hands out the very record that `hold` took. The laws in `memory_laws` say it of all parts
-//! together. No call takes memory.
+//! It is proved that a write through a borrowed range changes that range and nothing else; that a range is `Outside` if
+//! and only if it does not lie inside its part; and that `give` returns the same record that `hold` took. The laws in
+//! `memory_laws` state this for all parts together. No call allocates.
 //!
 //! ```text
 //! let mut sheet = Sheet::new(rt.alloc(), 4)?;

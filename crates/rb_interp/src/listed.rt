@@ -1,4 +1,4 @@
-//! Helpers that answer from a list.
+//! Helpers that take their answers from a list.
 
 ghost use Rattle.std.specs.Prelude.{◌≡◌, ℕ, ◌+◌, ◌<◌, ◌≤◌, List, [], ◌∷◌, ◌++◌, length, replicate, IfOk, IfErr, IfSome, is_some, is_ok, Bool, true, false, refl, drop, ℤ, pos};
 ghost use Rattle.rb_interp.specs.declared.done.Done.{Done};
@@ -14,11 +14,12 @@ use rb_lend::{Lent, Sheet};
 use std::alloc::{AllocError, Global};
 use std::marker::Model;
 
-/// Helpers that answer from a list, one answer for each call. They have a ring of every number, and look at no flags.
+/// Helpers that take their answers from a list, one for each call. They have a ring with every number, and ignore
+/// flags.
 ///
-/// An answer of `true` grants a record (but null where there is no memory for it), takes one, or outputs with answer 0. One of
-/// `false` is null, hands the record back, or answers `-EAGAIN`. A query uses its answer up too, and gives 0. No call takes
-/// memory but `new` and `reserve`.
+/// The answer `true` grants a record (or null if memory for it can't be allocated), takes a record, or makes an output
+/// return 0. The answer `false` returns null, hands a record back, or makes an output return `-EAGAIN`. A query
+/// consumes its answer, too, and returns 0. Only `new` and `reserve` allocate.
 #[derive(Drop)]
 pub struct Listed {
     alloc: Global,
@@ -39,8 +40,8 @@ impl Model for Listed {
 }
 
 impl Listed {
-    /// Helpers that give these answers, with room for as many calls, or `AllocError` where there is no memory for the
-    /// trace.
+    /// Creates helpers with these answers and room for as many calls. The only error is that the trace can't be
+    /// allocated.
     pub fn new(alloc: Global, answers: Vec<bool>) -> Result<Listed, AllocError>
         ensures answers { IfOk result (λ h. h.left ≡ answers.items) }
         ensures trace { IfOk result (λ h. h.trace ≡ []) }
@@ -54,7 +55,7 @@ impl Listed {
         })
     }
 
-    // The answer of the next call.
+    // Returns the answer for the next call.
     fn next_answer(&self) -> bool
         requires { 0 < length self.now.left }
         ensures { result ≡ next_of self.now.left }
@@ -62,7 +63,7 @@ impl Listed {
         self.answers[self.next]
     }
 
-    // Notes a call and uses its answer up. There is room for it.
+    // Appends a call to the trace, which has room for it, and consumes its answer.
     #[tactic(auto, using(crate::proofs::Counts::behind_next))]
     fn log(&mut self, done: Done)
         requires { 0 < length self.old.left }
@@ -101,7 +102,8 @@ impl Helpers for Listed {
 
     ghost leads_on = { called_on };
 
-    /// A sheet of `n` zero bytes where the next answer is `true` and there is memory for it, else null.
+    /// Returns a sheet (a buffer) of `n` zero bytes if the next answer is `true` and the sheet can be allocated,
+    /// otherwise null.
     fn reserve(&mut self, ring: u32, n: u32, flags: u64) -> Option<Sheet>
         requires room { 0 < length self.old.left }
         ensures trace { self.new.trace ≡ self.old.trace ++ Reserve ring n flags (is_some result) ∷ [] }
@@ -125,7 +127,7 @@ impl Helpers for Listed {
         sheet
     }
 
-    /// Takes the sheet exactly where the next answer is `true`.
+    /// Takes the sheet if and only if the next answer is `true`.
     fn submit(&mut self, owned: Sheet, flags: u64) -> Result<(), Sheet>
         requires room { 0 < length self.old.left }
         ensures trace { self.new.trace ≡ self.old.trace ++ Submit flags (is_ok result) ∷ [] }
@@ -140,7 +142,7 @@ impl Helpers for Listed {
         if taken { Ok(()) } else { Err(owned) }
     }
 
-    /// Takes the sheet exactly where the next answer is `true`.
+    /// Takes the sheet if and only if the next answer is `true`.
     fn discard(&mut self, owned: Sheet, flags: u64) -> Result<(), Sheet>
         requires room { 0 < length self.old.left }
         ensures trace { self.new.trace ≡ self.old.trace ++ Discard flags (is_ok result) ∷ [] }
@@ -155,7 +157,7 @@ impl Helpers for Listed {
         if taken { Ok(()) } else { Err(owned) }
     }
 
-    /// Answers 0 where the next answer is `true`, else `-EAGAIN`.
+    /// Returns 0 if the next answer is `true`, otherwise `-EAGAIN`.
     fn output(&mut self, ring: u32, bytes: &[u8], flags: u64) -> i64
         requires room { 0 < length self.old.left }
         ensures trace { self.new.trace ≡ self.old.trace ++ Output ring (length bytes.now) flags result ∷ [] }
@@ -174,7 +176,7 @@ impl Helpers for Listed {
         answer
     }
 
-    /// Answers 0 whatever the next answer is.
+    /// Returns 0 for any answer.
     fn query(&mut self, ring: u32, what: u64) -> u64
         requires room { 0 < length self.old.left }
         ensures trace { self.new.trace ≡ self.old.trace ++ Query ring what result ∷ [] }

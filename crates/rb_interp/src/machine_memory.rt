@@ -1,4 +1,4 @@
-//! The memory that a program reaches: its parts, and the names of the records in them.
+//! The memory that a program can access: its parts, and the names of the records in them.
 
 ghost use Rattle.std.specs.Prelude.{◌≡◌, ◌≢◌, ℕ, ◌<◌, ◌≤◌, ◌+◌, [], ◌∷◌, ◌++◌, None, Some, replicate, length, take, drop};
 ghost use Rattle.byteorder.specs.Endian.{little_bytes};
@@ -21,8 +21,10 @@ use rb_lend::Lent;
 use rb_semantics::{MemoryRegion, Value, writes_take_pointers_out};
 use std::marker::Model;
 
-/// The memory that a program reaches. Contracts see the bytes of the stack, the pointers that are kept on it, the context, and
-/// the records that are held, each with its name, in the order in which they were reserved.
+/// The memory that a program can access.
+///
+/// Contracts see the bytes of the stack, the pointers on it, the context, and the records that are held, each with its
+/// name, in the order in which they were reserved.
 #[derive(Drop)]
 pub(crate) struct MachineMemory<C, R> {
     parts: Parts<C, R>,
@@ -42,7 +44,7 @@ impl<C, R> Model for MachineMemory<C, R> {
 }
 
 impl<C, R> MachineMemory<C, R> {
-    /// A stack of zero bytes without pointers, a context, and no records.
+    /// Creates a memory with a zeroed stack without pointers, a context, and no records.
     pub(crate) fn new(context: C) -> MachineMemory<C, R>
         ensures { result ≡ record { stack = replicate 512 0; pointers = []; context = context; records = [] } }
     {
@@ -53,7 +55,8 @@ impl<C, R> MachineMemory<C, R> {
         }
     }
 
-    /// The same in the memory of an earlier program, whose records are given up. The table of its pointers is not cleared.
+    /// Resets the memory, in place, and drops the records of the previous program. The pointer table's storage is not
+    /// cleared.
     pub(crate) fn restart(&mut self, context: C)
     where
         C: Drop,
@@ -65,7 +68,7 @@ impl<C, R> MachineMemory<C, R> {
         self.entries.clear();
     }
 
-    /// Holds one more record.
+    /// Adds a record.
     pub(crate) fn hold(&mut self, id: u32, owned: R)
     where
         R: Drop,
@@ -82,7 +85,7 @@ impl<C, R> MachineMemory<C, R> {
         }
     }
 
-    /// Hands out a record.
+    /// Removes and returns a record.
     pub(crate) fn give(&mut self, id: u32) -> R
         requires { held_record id self.old.records ≢ None }
         ensures given { held_record id self.old.records ≡ Some result }
@@ -102,7 +105,7 @@ impl<C, R> MachineMemory<C, R> {
 }
 
 #[inline(always)]
-/// The part that a place names, and the byte of it that an offset names, counted from the first.
+/// Returns the part that `place` names, and the index of the byte at `offset`, counted from the part's first byte.
 fn located(entries: &[SlotEntry], place: MemoryRegion, offset: i64) -> (Part, usize)
     requires near { IsNear offset }
     requires held { part_named entries.now place ≢ None }
@@ -123,7 +126,7 @@ fn located(entries: &[SlotEntry], place: MemoryRegion, offset: i64) -> (Part, us
     }
 }
 
-/// The place of the stack that begins at an offset.
+/// Returns the place of the stack that begins at an offset.
 fn place_beginning(offset: i64) -> u8
     requires near { IsNear offset }
     requires place { IsSlotPlace (place_at MemoryRegion.Stack offset) }
@@ -134,7 +137,7 @@ fn place_beginning(offset: i64) -> u8
 
 impl<C: Context, R: Lent> MachineMemory<C, R> {
     #[inline(always)]
-    /// Lends `len` bytes from an offset of a part on for reading.
+    /// Returns the `len` bytes from an offset of a part on.
     pub(crate) fn read(&self, place: MemoryRegion, offset: i64, len: usize) -> &[u8]
         requires near { IsNear offset }
         requires inside { read (program_memory_of R.bytes_of C.shown self.now) place offset len ≢ None }
@@ -161,7 +164,7 @@ impl<C: Context, R: Lent> MachineMemory<C, R> {
         put_number(size, bytes, number);
     }
 
-    /// Keeps a pointer at the place of the stack that begins at an offset.
+    /// Stores a pointer at the place of the stack that begins at an offset.
     pub(crate) fn keep(&mut self, place: MemoryRegion, offset: i64, value: Value)
         requires near { IsNear offset }
         requires stack { length self.old.stack ≡ 512 }
@@ -175,7 +178,7 @@ impl<C: Context, R: Lent> MachineMemory<C, R> {
     }
 
     #[inline(always)]
-    /// The pointer that a load finds at an offset of a part.
+    /// Returns the pointer that a load finds at an offset of a part, if there is one.
     pub(crate) fn found(&self, size: Size, place: MemoryRegion, offset: i64) -> Option<Value>
         requires { IsNear offset }
         ensures { result ≡ filled size (program_memory_of R.bytes_of C.shown self.now) place offset }
@@ -187,7 +190,7 @@ impl<C: Context, R: Lent> MachineMemory<C, R> {
     }
 
     #[inline(always)]
-    /// Lends `len` bytes of the stack from byte `at` on for reading.
+    /// Returns the `len` bytes of the stack from byte `at` on.
     pub(crate) fn stack_bytes(&self, at: usize, len: usize) -> &[u8]
         requires { at + len ≤ length self.now.stack }
         ensures bytes { result.now ≡ take len (drop at self.now.stack) }
@@ -197,7 +200,8 @@ impl<C: Context, R: Lent> MachineMemory<C, R> {
     }
 
     #[inline(always)]
-    /// Writes the low bytes of a number to the stack from byte `at` on, the lowest first, where no pointer is kept.
+    /// Writes the low bytes of a number to the stack from byte `at` on, the lowest first. The bytes must not belong to
+    /// a pointer.
     pub(crate) fn store_on_stack(&mut self, at: usize, size: Size, number: u64)
         requires { at + byte_count size ≤ 512 }
         ensures { self.new ≡ record self.old { stack = written_at at self.old.stack (little_bytes (byte_count size) number) } }

@@ -1,11 +1,11 @@
-//! Some bytes of a part.
+//! A range of bytes of a part.
 
 ghost use Rattle.std.specs.Prelude.{◌≡◌, true};
 ghost use Rattle.rb_verifier.specs.AbstractArithmetic.{is_near};
 
 use rb_semantics::MemoryRegion;
 
-/// Some bytes of a part.
+/// A range of bytes of a part.
 #[derive(Clone, Copy)]
 pub(crate) struct Range {
     pub(crate) place: MemoryRegion,
@@ -15,7 +15,7 @@ pub(crate) struct Range {
 }
 
 impl Range {
-    /// No bytes, at the stack's end.
+    /// Returns an empty range, at the end of the stack.
     pub(crate) fn none() -> Range {
         Range {
             place: MemoryRegion::Stack,

@@ -1,4 +1,4 @@
-//! The disjoint parts of memory that a program reaches.
+//! The disjoint parts of memory that a program can access.
 
 ghost use Rattle.std.specs.Prelude.{◌≡◌, ◌≢◌, ℕ, ◌+◌, ◌≤◌, List, length, replicate, IfOk, IfErr, MatchResult, take, drop, Some, None, option_map, nat_le, true, false};
 ghost use Rattle.std.specs.Borrow.{sem};
@@ -11,32 +11,32 @@ use crate::writable_range::WritableRange;
 use rb_lend::Lent;
 use thiserror::Error;
 
-/// Why a range can't be read or written: it does not lie inside the part, the slot is empty, or it is the context, which is
-/// never written.
+/// The error for a range that can't be read or written: it is not inside the part, the slot is empty, or it is to be
+/// written in the context, which is read-only.
 #[derive(Debug, Drop, Error)]
 #[error("outside the part")]
 pub struct Outside;
 
-/// A part of the memory, by its name.
+/// The name of a part of memory.
 #[derive(Debug, Clone, Copy, PartialEq, Eq)]
 pub enum Part {
     /// The 512 bytes of the stack.
     Stack,
-    /// The context, which is only read.
+    /// The context, which is read-only.
     Ctx,
-    /// The record that a slot holds.
+    /// The record in a slot.
     Record(Slot),
 }
 
-/// The parts of memory that a program reaches: its stack of 512 bytes, the context that it may read, and at most four
-/// records. Their calls are given neither an allocator nor a runtime.
+/// The parts of memory that a program can access: its stack of 512 bytes, its read-only context, and at most four
+/// records. None of the calls takes an allocator or a runtime.
 ///
-/// The three fields are lent apart from one another, so a caller splits the parts by borrowing them side by side.
+/// The three fields can be borrowed separately, so a caller can split the parts by borrowing them side by side.
 #[derive(Drop)]
 pub struct Parts<C, R> {
-    /// The stack. Place 512 is one past its last byte.
+    /// The stack. Index 512 is one past its last byte.
     pub stack: Stack,
-    /// The context, as a view that is only read.
+    /// The context, as a read-only view.
     pub context: C,
     /// The records that are held.
     pub records: Records<R>,
@@ -45,7 +45,7 @@ pub struct Parts<C, R> {
 impl<C, R> Parts<C, R> {
     ghost use Rattle.rb_interp.specs.RecordSlots.{in_slot, with_slot, lowest_empty};
 
-    /// A stack of 512 zero bytes, this context, and four empty slots.
+    /// Creates parts with a zeroed stack of 512 bytes, this context, and four empty slots.
     pub fn new(context: C) -> Parts<C, R>
         ensures stack { result.stack ≡ replicate 512 0 }
         ensures context { result.context ≡ context }
@@ -61,7 +61,7 @@ impl<C, R> Parts<C, R> {
         }
     }
 
-    /// The parts as `new` makes them, in place: the stack is cleared, and what the slots held is given up.
+    /// Resets the parts to those that `new` creates, in place: clears the stack and drops the contents of the slots.
     pub fn restart(&mut self, context: C)
     where
         C: Drop,
@@ -78,8 +78,10 @@ impl<C, R> Parts<C, R> {
         self.records.clear();
     }
 
-    /// Takes the record into the lowest empty slot and answers that slot, or hands the record back exactly where four are held.
-    /// In constant time.
+    /// Puts a record into the lowest empty slot and returns that slot, or returns the record if and only if four are
+    /// held already.
+    ///
+    /// Takes constant time.
     pub fn hold(&mut self, owned: R) -> Result<Slot, R>
     where
         R: Drop,
@@ -94,8 +96,10 @@ impl<C, R> Parts<C, R> {
         self.records.hold(owned)
     }
 
-    /// Hands out what the slot holds: the very value that was held, with the bytes that were written since. `None` exactly
-    /// where the slot was empty. The slot is empty afterwards. In constant time.
+    /// Empties a slot and returns its record, the same value that was put in, with the bytes written since. Returns
+    /// `None` if and only if the slot was empty.
+    ///
+    /// Takes constant time.
     pub fn give(&mut self, slot: Slot) -> Option<R>
         ensures value { result ≡ in_slot self.old.records slot }
         ensures records { self.new.records ≡ with_slot self.old.records slot None }
@@ -112,9 +116,11 @@ impl<C: Context, R: Lent> Parts<C, R> {
     ghost use Rattle.rb_interp.specs.inner.Lending.{LendsRangeOfStack, LendsRangeOfRecord};
     ghost use Rattle.rb_interp.specs.Lending.{LendsPart, RestsIfOutside, IsWritableRangeOf};
 
-    /// Lends `len` bytes from place `off` of a part for reading, `Outside` exactly where they do not lie inside it. `off`
-    /// counts from the part's first byte. A range of no bytes lies inside at each place from the first byte to one past the
-    /// last. No range lies inside an empty slot.
+    /// Returns the `len` bytes from index `off` of a part on, or `Outside` if and only if they do not lie inside the
+    /// part.
+    ///
+    /// `off` counts from the part's first byte. An empty range lies inside the part at each index from 0 to the part's
+    /// length. No range lies inside an empty slot.
     pub fn read(&self, part: Part, off: usize, len: usize) -> Result<&[u8], Outside>
         ensures value { MatchResult result
             (λ bytes. part_range off len (memory_of R.bytes_of C.shown self.now part) ≡ Some bytes.now)
@@ -135,8 +141,8 @@ impl<C: Context, R: Lent> Parts<C, R> {
     }
 
     #[inline(always)]
-    /// Lends `len` bytes from place `off` of a part for reading, for callers that know that they lie inside it. `off` counts as
-    /// in `read`.
+    /// Returns the `len` bytes from index `off` of a part on, which must lie inside the part. `off` counts as in
+    /// `read`.
     pub fn range(&self, part: Part, off: usize, len: usize) -> &[u8]
         requires { part_range off len (memory_of R.bytes_of C.shown self.now part) ≢ None }
         ensures value { part_range off len (memory_of R.bytes_of C.shown self.now part) ≡ Some result.now }
@@ -155,8 +161,8 @@ impl<C: Context, R: Lent> Parts<C, R> {
         }
     }
 
-    /// Whether `len` bytes from place `off` on lie inside a part that may be written: the stack or a record that is held. Never
-    /// of the context or of an empty slot.
+    /// Whether the `len` bytes from index `off` on lie inside a part that can be written: the stack or a record that is
+    /// held, but never the context or an empty slot.
     pub fn can_write(&self, part: Part, off: usize, len: usize) -> bool
         ensures { result ≡ may_write R.bytes_of self.now part off len }
     {
@@ -170,7 +176,7 @@ impl<C: Context, R: Lent> Parts<C, R> {
         }
     }
 
-    // The bytes of a range that lies inside the stack, lent for writing.
+    // Borrows a range inside the stack for writing.
     fn stack_range(&mut self, off: usize, len: usize) -> &mut [u8]
         requires { off + len ≤ 512 }
         ensures* writes_back { sem 𝓛 (LendsRangeOfStack C.row R.row self.entry off result) }
@@ -181,7 +187,7 @@ impl<C: Context, R: Lent> Parts<C, R> {
         self.stack.range_mut(off, len)
     }
 
-    // The bytes of a range that lies inside the record in a slot, lent for writing.
+    // Borrows a range inside the record in a slot for writing.
     fn record_range(&mut self, slot: Slot, off: usize, len: usize) -> &mut [u8]
         requires { record_has R.bytes_of (in_slot self.old.records slot) off len ≡ true }
         ensures* writes_back { sem 𝓛 (LendsRangeOfRecord C.row R.row R.with_bytes R.bytes_of self.entry slot off result) }
@@ -192,8 +198,8 @@ impl<C: Context, R: Lent> Parts<C, R> {
         owned.range_mut(off, len)
     }
 
-    /// Lends `len` bytes from place `off` of a part for writing, for callers that know from `can_write` or otherwise that they
-    /// may be written. All else stays.
+    /// Borrows the `len` bytes from index `off` of a part on for writing. They must be writable, as `can_write`
+    /// reports. Everything else is unchanged.
     pub fn range_mut(&mut self, part: Part, off: usize, len: usize) -> &mut [u8]
         requires { may_write R.bytes_of self.old part off len ≡ true }
         ensures* writes_back { sem 𝓛 (LendsPart C.row R.row R.with_bytes R.bytes_of self.entry part off result) }
@@ -210,8 +216,8 @@ impl<C: Context, R: Lent> Parts<C, R> {
         }
     }
 
-    /// The `len` bytes from place `off` of a part, to be lent for writing by `WritableRange::into_bytes`, or `Outside` exactly where they
-    /// may not be written; then nothing is changed.
+    /// Returns the `len` bytes from index `off` of a part on, to be borrowed for writing by
+    /// `WritableRange::into_bytes`, or `Outside` if and only if they can't be written; then nothing is changed.
     pub fn write(
         &mut self,
         part: Part,
@@ -236,7 +242,7 @@ impl<C: Context, R: Lent> Parts<C, R> {
     }
 }
 
-// Whether `len` places from `off` on lie among the first `size`.
+// Whether the `len` bytes from index `off` on lie within the first `size` bytes.
 fn fits(off: usize, len: usize, size: usize) -> bool
     ensures { result ≡ nat_le (off + len) size }
 {

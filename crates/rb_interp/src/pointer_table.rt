@@ -1,4 +1,4 @@
-//! The pointers that a program keeps on its stack, in a table that is made for the first of them.
+//! The pointers that a program keeps on its stack, in a table that is created for the first one.
 
 ghost use Rattle.std.specs.Prelude.{◌≡◌, ◌<◌, [], ◌∷◌, None};
 ghost use Rattle.rb_semantics.specs.StackPointers.{pointer_at};
@@ -8,8 +8,10 @@ use crate::kept_pointers::KeptPointers;
 use rb_semantics::{MemoryRegion, Value};
 use std::marker::Model;
 
-/// The pointers on the stack. Their table, of two kilobytes, is made when the first is kept, so that a machine whose program keeps none
-/// does not clear it. Contracts see the pointers under their places, the newest first.
+/// The pointers on the stack. Their table of two kilobytes is created when the first pointer is stored, so a machine
+/// whose program stores none does not have to clear it.
+///
+/// Contracts see the pointers with their places, the newest first.
 #[derive(Drop)]
 pub(crate) struct PointerTable {
     table: Option<KeptPointers>,
@@ -25,7 +27,7 @@ impl Model for PointerTable {
 }
 
 impl PointerTable {
-    /// No pointers, and no table.
+    /// Returns an empty set of pointers without a table.
     pub(crate) fn new() -> PointerTable
         ensures { result ≡ [] }
     {
@@ -33,7 +35,7 @@ impl PointerTable {
     }
 
     #[inline(always)]
-    /// No pointers from here on. A table that was made stays.
+    /// Removes all pointers. A table that was created stays.
     pub(crate) fn clear(&mut self)
         ensures { self.new ≡ [] }
     {
@@ -45,7 +47,7 @@ impl PointerTable {
 
     #[inline(always)]
     #[tactic(auto, using(crate::proofs::KeptEntries::none_beginning))]
-    /// The pointer at the place that begins at a byte of the stack, where one does.
+    /// Returns the pointer at the place that begins at a byte of the stack, if there is one.
     pub(crate) fn beginning(&self, byte: i64) -> Option<Value>
         ensures { result ≡ beginning_at byte self.now }
     {
@@ -57,7 +59,8 @@ impl PointerTable {
 
     #[inline(always)]
     #[tactic(auto, using(crate::proofs::KeptEntries::none_written))]
-    /// The `len` bytes from byte `at` of a part on are written: no place of the stack that has one of them has a pointer then.
+    /// Updates the pointers for a write of the `len` bytes from byte `at` of a part on: places of the stack that
+    /// overlap them lose their pointers.
     pub(crate) fn write(&mut self, part: MemoryRegion, at: usize, len: usize)
         ensures { self.new ≡ pointers_written part at len self.old }
     {
@@ -67,7 +70,7 @@ impl PointerTable {
         }
     }
 
-    /// Keeps a pointer at a place that has none.
+    /// Stores a pointer at a place that has none.
     pub(crate) fn keep(&mut self, place: u8, value: Value)
         requires inside { place < 64 }
         requires empty { pointer_at place self.old ≡ None }

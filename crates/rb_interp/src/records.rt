@@ -7,29 +7,29 @@ ghost use Rattle.rb_interp.specs.inner.SomeOf.{LendsSome};
 use crate::known::known;
 use rb_lend::Lent;
 
-/// One of the four places for a record.
+/// One of the four slots for a record.
 #[derive(Debug, Clone, Copy, PartialEq, Eq)]
 pub enum Slot {
-    /// The lowest.
+    /// The lowest slot.
     First,
-    /// The second lowest.
+    /// The second lowest slot.
     Second,
-    /// The second highest.
+    /// The second highest slot.
     Third,
-    /// The highest.
+    /// The highest slot.
     Fourth,
 }
 
-/// The records that are held, by their slots. The calls take no memory of their own and look at four slots at most.
+/// The records that are held, by slot. The calls allocate nothing and examine at most four slots.
 #[derive(Drop)]
 pub struct Records<R> {
-    /// What the lowest slot holds.
+    /// The content of the lowest slot.
     pub first: Option<R>,
-    /// What the second lowest slot holds.
+    /// The content of the second lowest slot.
     pub second: Option<R>,
-    /// What the second highest slot holds.
+    /// The content of the second highest slot.
     pub third: Option<R>,
-    /// What the highest slot holds.
+    /// The content of the highest slot.
     pub fourth: Option<R>,
 }
 
@@ -38,7 +38,7 @@ impl<R> Records<R> {
     ghost use Rattle.rb_interp.specs.Lending.{LendsRecordIn};
     ghost use Rattle.rb_interp.specs.RecordSlots.{in_slot, with_slot, lowest_empty};
 
-    /// Four empty slots.
+    /// Creates four empty slots.
     pub(crate) fn new() -> Records<R>
         ensures first { result.first ≡ None }
         ensures second { result.second ≡ None }
@@ -53,7 +53,7 @@ impl<R> Records<R> {
         }
     }
 
-    /// Empties each slot that holds a record, which is given up. A slot that is empty is not written.
+    /// Drops the record of each slot that holds one. Does not write to a slot that is empty.
     pub(crate) fn clear(&mut self)
     where
         R: Drop,
@@ -76,7 +76,7 @@ impl<R> Records<R> {
         }
     }
 
-    /// What the slot holds, lent for reading: `None` exactly where it is empty.
+    /// Returns the content of a slot: `None` if and only if it is empty.
     pub(crate) fn get(&self, slot: Slot) -> &Option<R>
         ensures { result.now ≡ in_slot self.now slot }
     {
@@ -88,7 +88,7 @@ impl<R> Records<R> {
         }
     }
 
-    // What the slot holds, lent for writing.
+    // Borrows the content of a slot for writing.
     fn slot_mut(&mut self, slot: Slot) -> &mut Option<R>
         ensures* writes_back { sem 𝓛 (LendsSlot R.row self.entry slot result) }
         ensures value { result.now ≡ in_slot self.old slot }
@@ -101,7 +101,7 @@ impl<R> Records<R> {
         }
     }
 
-    /// The record in the slot, which is not empty, lent for writing. The other slots stay.
+    /// Borrows the record in a slot that is not empty for writing. The other slots are unchanged.
     pub(crate) fn record_mut(&mut self, slot: Slot) -> &mut R
         requires { IsSome (in_slot self.old slot) }
         ensures* writes_back { sem 𝓛 (LendsRecordIn R.row self.entry slot result) }
@@ -111,7 +111,7 @@ impl<R> Records<R> {
         some_mut(place)
     }
 
-    // Gives the slot this record, in place of what it held.
+    // Replaces the content of a slot by this record.
     fn put(&mut self, slot: Slot, owned: R)
     where
         R: Drop,
@@ -125,7 +125,7 @@ impl<R> Records<R> {
         }
     }
 
-    // The lowest empty slot, where there is one.
+    // Returns the lowest empty slot, if there is one.
     fn empty_slot(&self) -> Option<Slot>
         ensures { result ≡ lowest_empty self.now }
     {
@@ -144,7 +144,8 @@ impl<R> Records<R> {
         None
     }
 
-    /// Takes the record into the lowest empty slot and answers that slot, or hands the record back exactly where four are held.
+    /// Puts a record into the lowest empty slot and returns that slot, or returns the record if and only if four are
+    /// held already.
     pub(crate) fn hold(&mut self, owned: R) -> Result<Slot, R>
     where
         R: Drop,
@@ -163,8 +164,8 @@ impl<R> Records<R> {
         }
     }
 
-    /// Hands out what the slot holds: the very value that was held, with the bytes that were written since. `None` exactly
-    /// where the slot was empty. The slot is empty afterwards.
+    /// Empties a slot and returns its record, the same value that was put in, with the bytes written since. Returns
+    /// `None` if and only if the slot was empty.
     pub(crate) fn give(&mut self, slot: Slot) -> Option<R>
         ensures value { result ≡ in_slot self.old slot }
         ensures rest { self.new ≡ with_slot self.old slot None }
@@ -182,7 +183,7 @@ impl<R: Lent> Records<R> {
     ghost use Rattle.rb_interp.specs.Lending.{LendsBytesIn};
     ghost use Rattle.rb_interp.specs.RecordSlots.{in_slot};
 
-    /// The bytes of the record in the slot, which is not empty, lent for writing. The other slots stay.
+    /// Borrows the bytes of the record in a slot that is not empty for writing. The other slots are unchanged.
     pub(crate) fn bytes_mut(&mut self, slot: Slot) -> &mut [u8]
         requires { IsSome (in_slot self.old slot) }
         ensures* writes_back { sem 𝓛 (LendsBytesIn R.row R.with_bytes self.entry slot result) }
@@ -193,7 +194,7 @@ impl<R: Lent> Records<R> {
     }
 }
 
-// The value of an option that is no `None`, lent for writing.
+// Borrows the value of an option that is not `None` for writing.
 fn some_mut<T>(place: &mut Option<T>) -> &mut T
     requires { IsSome place.old }
     ensures* writes_back { sem 𝓛 (LendsSome T.row place.entry result) }

@@ -1,4 +1,4 @@
-//! What r0 to r10 hold.
+//! The registers r0 to r10.
 
 ghost use Rattle.std.specs.Prelude.{◌≡◌, length, replicate, slice_index_or, slice_set, IfSome, pos};
 ghost use Rattle.rb_semantics.specs.declared.value.MemoryRegion.TheVariants.{Stack, Context};
@@ -10,10 +10,10 @@ use rb_insn::Reg;
 use rb_semantics::{MemoryRegion, Value};
 use std::marker::Model;
 
-/// What kind of value a register holds, and of a pointer to which part of the memory.
+/// The kind of a register's value; for a pointer, the part of memory that it points to.
 #[derive(Clone, Copy)]
 pub(crate) enum Kind {
-    /// Nothing.
+    /// No value.
     Nothing,
     /// A number.
     Number,
@@ -21,14 +21,14 @@ pub(crate) enum Kind {
     Stack,
     /// A pointer to the context.
     Context,
-    /// A pointer to the record of this name.
+    /// A pointer to the record with this name.
     Record(u32),
-    /// The ring of this number.
+    /// The ring with this number.
     Ring(u32),
 }
 
-/// What r0 to r10 hold: a number each, which is a pointer's offset in two's complement, and beside them their kinds, which arithmetic
-/// neither reads nor writes. Contracts see their values.
+/// The registers r0 to r10: for each, a number, which for a pointer is its offset in two's complement, and beside it
+/// the kind, which arithmetic neither reads nor writes. Contracts see the values.
 #[derive(Drop)]
 pub(crate) struct Registers {
     kinds: [Kind; 11],
@@ -47,7 +47,8 @@ impl Model for Registers {
 }
 
 impl Registers {
-    /// Registers as a program begins: r1 points to its context, r10 behind its stack, and the others hold nothing.
+    /// Creates the registers with which a program starts: r1 points to its context, r10 to the end of its stack, and
+    /// the others have no value.
     pub(crate) fn at_entry() -> Registers
         ensures { result ≡ slice_set (slice_set (replicate 11 Nothing) 1 (Pointer Context (pos 0))) 10 (Pointer Stack (pos 0)) }
     {
@@ -59,7 +60,7 @@ impl Registers {
         registers
     }
 
-    /// The registers become as a program begins.
+    /// Resets the registers to those with which a program starts.
     pub(crate) fn set_entry(&mut self)
         ensures { self.new ≡ slice_set (slice_set (replicate 11 Nothing) 1 (Pointer Context (pos 0))) 10 (Pointer Stack (pos 0)) }
     {
@@ -70,7 +71,7 @@ impl Registers {
     }
 
     #[inline(always)]
-    /// What all registers are: they are eleven. For the proofs of callers; it does nothing.
+    /// The invariant that there are eleven registers. For the proofs of callers; it does nothing at run time.
     pub(crate) fn facts(&self)
         ensures { length self.now ≡ 11 }
     {
@@ -79,7 +80,7 @@ impl Registers {
     }
 
     #[inline(always)]
-    /// What a register holds.
+    /// Returns the value of a register.
     pub(crate) fn get(&self, reg: Reg) -> Value
         ensures { result ≡ slice_index_or self.now reg.number Nothing }
     {
@@ -87,7 +88,7 @@ impl Registers {
     }
 
     #[inline(always)]
-    /// What a register holds, where that is a number.
+    /// Returns the value of a register if it is a number.
     pub(crate) fn get_number(&self, reg: Reg) -> Option<Value>
         ensures { IfSome result (λ v. v ≡ slice_index_or self.now reg.number Nothing) }
     {
@@ -98,7 +99,7 @@ impl Registers {
     }
 
     #[inline(always)]
-    /// What a register holds, where that is a pointer to the stack.
+    /// Returns the value of a register if it is a stack pointer.
     pub(crate) fn get_stack(&self, reg: Reg) -> Option<Value>
         ensures { IfSome result (λ v. v ≡ slice_index_or self.now reg.number Nothing) }
     {
@@ -109,7 +110,7 @@ impl Registers {
     }
 
     #[inline(always)]
-    /// What a register holds, where that is a pointer to a record.
+    /// Returns the value of a register if it is a record pointer.
     pub(crate) fn get_record(&self, reg: Reg) -> Option<Value>
         ensures { IfSome result (λ v. v ≡ slice_index_or self.now reg.number Nothing) }
     {
@@ -120,7 +121,7 @@ impl Registers {
     }
 
     #[inline(always)]
-    /// The number that a register holds, or its pointer's offset in two's complement.
+    /// Returns the number in a register, or the offset of its pointer in two's complement.
     pub(crate) fn number(&self, reg: Reg) -> u64
         ensures { IsKeptAs (slice_index_or self.now reg.number Nothing) result }
     {
@@ -128,7 +129,7 @@ impl Registers {
     }
 
     #[inline(always)]
-    /// A register gets a value.
+    /// Sets a register.
     pub(crate) fn set(&mut self, reg: Reg, value: Value)
         ensures { self.new ≡ slice_set self.old reg.number value }
     {
@@ -138,7 +139,7 @@ impl Registers {
     }
 
     #[inline(always)]
-    /// A register gets what another holds.
+    /// Copies a register to another.
     pub(crate) fn copy(&mut self, dst: Reg, src: Reg)
         ensures { self.new ≡ slice_set self.old dst.number (slice_index_or self.old src.number Nothing) }
     {
@@ -147,7 +148,7 @@ impl Registers {
     }
 
     #[inline(always)]
-    /// A register gets another number, or its pointer another offset.
+    /// Replaces the number in a register, or the offset of its pointer.
     pub(crate) fn renumber(&mut self, reg: Reg, number: u64)
         ensures { self.new ≡ slice_set self.old reg.number (renumbered (slice_index_or self.old reg.number Nothing) number) }
     {
@@ -156,7 +157,7 @@ impl Registers {
 }
 
 #[inline(always)]
-/// The value of a kind, with the number that is kept of it.
+/// Returns the value with this kind and this stored number.
 fn shown(kind: Kind, number: u64) -> Value
     ensures { result ≡ shown_value kind number }
 {
@@ -171,7 +172,7 @@ fn shown(kind: Kind, number: u64) -> Value
 }
 
 #[inline(always)]
-/// The kind of a value, and the number that is kept of it.
+/// Returns the kind of a value, and the number to store for it.
 fn kept(value: Value) -> (Kind, u64)
     ensures { shown_value result.0 result.1 ≡ value }
 {

@@ -1,33 +1,33 @@
-//! What a program calls, and what it is answered.
+//! The helper calls of a program, and their answers.
 
-/// A call that a program makes. It owns the record that is submitted or discarded; the bytes of an output are lent by the machine that
-/// made the call.
+/// A helper call of a program. It owns the record that is submitted or discarded; the bytes of an output are borrowed
+/// from the machine that made the call.
 #[derive(Drop)]
 pub enum Request<R> {
-    /// A record of `len` bytes of a ring.
+    /// Reserves a record of `len` bytes of a ring.
     Reserve { ring: u32, len: u32, flags: u64 },
-    /// The record is to be consumed.
+    /// Submits a record to be consumed.
     Submit { owned: R, flags: u64 },
-    /// The record is to be passed over.
+    /// Discards a record, which the consumer skips.
     Discard { owned: R, flags: u64 },
-    /// A copy of some bytes is to be put into a ring.
+    /// Outputs a copy of bytes to a ring.
     Output { ring: u32, flags: u64 },
-    /// A number of a ring.
+    /// Requests a number of a ring.
     Query { ring: u32, what: u64 },
 }
 
-/// What a call is answered.
+/// The answer to a helper call.
 #[derive(Drop)]
 pub enum Answer<R> {
-    /// The record that a reserve granted.
+    /// A reserve granted this record.
     Granted(R),
-    /// A reserve granted none.
+    /// A reserve granted no record.
     Null,
-    /// The record of a submit or a discard was taken.
+    /// A submit or a discard took the record.
     Taken,
-    /// It was handed back.
+    /// A submit or a discard handed the record back.
     HandedBack,
-    /// The code of an output: 0, or a failure below it.
+    /// The return code of an output: 0, or a negated error number.
     Code(i64),
     /// The number that a query returned.
     Told(u64),

@@ -1,12 +1,12 @@
-//! What a machine comes to that stands at a call or at the end of its program.
+//! The result of executing a call or an exit.
 
-/// What a machine came to that stood at a call or at the end of its program.
+/// The result of executing a call or an exit.
 #[derive(Clone, Copy)]
 pub(crate) enum Served {
-    /// The call was made, and the instruction behind it comes next.
+    /// The call was made, and the instruction after it comes next.
     WentOn,
-    /// The program ended, with this result.
+    /// The program ended with this result.
     Ended(u64),
-    /// The record that the call gives back was handed back.
+    /// The record of a submit or a discard was handed back.
     Strayed,
 }

@@ -1,4 +1,4 @@
-//! Which record is in which slot.
+//! The table of which record is in which slot.
 
 ghost use Rattle.std.specs.Prelude.{◌≡◌, find, filter};
 ghost use Rattle.rb_interp.specs.inner.SlotTable.{entry_has_id, other_entry_than};
@@ -22,7 +22,7 @@ impl Default for SlotEntry {
     }
 }
 
-/// The entry of a name, where it is there.
+/// Returns the entry with this name, if there is one.
 pub(crate) fn entry_of(entries: &[SlotEntry], id: u32) -> Option<SlotEntry>
     ensures { result ≡ find (entry_has_id id) entries.now }
 {
@@ -34,7 +34,7 @@ pub(crate) fn entry_of(entries: &[SlotEntry], id: u32) -> Option<SlotEntry>
     None
 }
 
-/// The entries of other names, in their order.
+/// Returns the entries with other names, in order.
 pub(crate) fn without(entries: &ArrayVec<SlotEntry, 4>, id: u32) -> ArrayVec<SlotEntry, 4>
     ensures { result.items ≡ filter (other_entry_than id) entries.now.items }
 {

@@ -7,8 +7,8 @@ ghost use Rattle.rb_interp.specs.Stack.{LendsStackRange};
 use rb_lend::Block;
 use std::marker::Model;
 
-/// The stack of a program: 512 bytes (Linux include/linux/filter.h, MAX_BPF_STACK), in place. Contracts see it as the list of
-/// its bytes. Its calls take no memory.
+/// The stack of a program: 512 bytes (Linux include/linux/filter.h, MAX_BPF_STACK), stored inline. Contracts see it as
+/// the list of its bytes. Its calls allocate nothing.
 #[derive(Drop)]
 pub struct Stack {
     block: Block<512>,
@@ -23,7 +23,7 @@ impl Model for Stack {
 }
 
 impl Stack {
-    /// A stack of zero bytes.
+    /// Creates a stack of zero bytes.
     pub(crate) fn new() -> Stack
         ensures { result ≡ replicate 512 0 }
     {
@@ -32,7 +32,7 @@ impl Stack {
         }
     }
 
-    /// Lends the bytes for reading. There are 512.
+    /// Returns the 512 bytes of the stack.
     pub fn bytes(&self) -> &[u8]
         ensures value { result.now ≡ self.now }
         ensures size { length self.now ≡ 512 }
@@ -40,7 +40,8 @@ impl Stack {
         self.block.bytes()
     }
 
-    /// Lends `len` bytes from place `at` on for writing, where they lie inside. Place 0 is the first byte. The other bytes stay.
+    /// Borrows the `len` bytes from index `at` on for writing; they must lie inside the stack. Index 0 is the first
+    /// byte. The other bytes are unchanged.
     pub fn range_mut(&mut self, at: usize, len: usize) -> &mut [u8]
         requires { at + len ≤ 512 }
         ensures* writes_back { sem 𝓛 (LendsStackRange self.entry at len result) }

@@ -1,12 +1,12 @@
-//! What a step does, and what comes next.
+//! The result of a step, and what comes next.
 
 use crate::request::Request;
 use rb_semantics::PendingCall;
 
-/// What a step did.
+/// The result of a step.
 #[derive(Drop)]
 pub enum Step<R> {
-    /// An instruction was executed, and another one comes next.
+    /// The step executed an instruction, and another one comes next.
     Went,
     /// The program ended with this result.
     Exit(u64),
@@ -19,7 +19,7 @@ pub enum Step<R> {
 pub enum Phase {
     /// An instruction.
     Ready,
-    /// The answer of a call.
+    /// The answer to a helper call.
     Waiting(PendingCall),
     /// Nothing: the program ended with this result.
     Exited(u64),

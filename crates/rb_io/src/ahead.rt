@@ -1,4 +1,4 @@
-//! A reader behind a buffer.
+//! A buffered reader.
 
 use crate::incoming::Incoming;
 use crate::outgoing::Outgoing;
@@ -7,14 +7,15 @@ use std::io;
 use std::io::Read;
 use std::marker::Model;
 
-/// How many bytes are read at once: as many as a pipe holds (pipe(7)).
+/// The maximal number of bytes of one read: the capacity of a pipe (pipe(7)).
 const CAPACITY: usize = 65_536;
 
-/// Reads ahead from another reader, up to 65,536 bytes at a time. Unlike std's `BufReader` it reads only in [`Incoming::fill`].
+/// A reader that buffers another one, up to 65,536 bytes at a time. Unlike std's `BufReader` it reads only in
+/// [`Incoming::fill`].
 #[derive(Drop)]
 pub struct ReadAhead<R> {
     reader: R,
-    // `CAPACITY` bytes, of which those from `start` to `end` are at hand.
+    // `CAPACITY` bytes, of which those from `start` to `end` were read and not consumed yet.
     room: Vec<u8>,
     start: usize,
     end: usize,
@@ -34,7 +35,8 @@ impl<R> Model for ReadAhead<R> {
 impl<R: Read> ReadAhead<R> {
     ghost use Rattle.std.specs.Prelude.{◌≡◌, [], IfOk};
 
-    /// Returns a buffer over the reader, of which nothing was read. The error is out of memory.
+    /// Returns a buffer over the reader, from which nothing was read. Fails if memory for the buffer can't be
+    /// allocated.
     pub fn new(alloc: Global, reader: R) -> Result<ReadAhead<R>, AllocError>
     where
         R: Drop,

@@ -1,4 +1,4 @@
-//! A writer behind a buffer.
+//! A buffered writer.
 
 use crate::device::{DeviceFault, write_out};
 use crate::outgoing::Outgoing;
@@ -7,16 +7,18 @@ use std::io;
 use std::io::{Error, ErrorKind, Write};
 use std::marker::Model;
 
-/// How many bytes are gathered before they are handed on: as many as a pipe holds (pipe(7)).
+/// The size of the buffer in bytes: the capacity of a pipe (pipe(7)).
 const CAPACITY: usize = 65_536;
 
-/// Gathers what is written to it, and hands it on once the buffer is full, or by `write_out` or `flush`. Unlike std's it takes an interrupted write for
-/// one that failed, and nothing goes out when it is dropped: after a write that failed, all that did not go out waits for the next one.
-/// The error of a write is `WriteZero`, whatever failed below.
+/// A writer that collects what is written to it, and passes it on when the buffer is full or on `write_out` or `flush`.
+///
+/// Unlike std's `BufWriter` it treats an interrupted write as a failed one, and it writes nothing when it is dropped.
+/// After a write that failed, all bytes that were not written wait for the next one. The error of a write is
+/// `WriteZero`, whatever the underlying error was.
 #[derive(Drop)]
 pub struct Buffered<W> {
     writer: W,
-    // `CAPACITY` bytes, of which the first `count` wait. What stands behind them means nothing.
+    // `CAPACITY` bytes, of which the first `count` wait to be written. The others are meaningless.
     room: Vec<u8>,
     count: usize,
 }
@@ -37,7 +39,7 @@ impl<W: Write> Buffered<W> {
     ghost use Rattle.std.specs.Io.KnownBytes.{Keeps, WriteAppends, append_known};
     ghost use Rattle.rb_io.specs.Gathered.{HandsOn};
 
-    /// A buffer in front of the writer; the error is want of memory.
+    /// Returns an empty buffer over the writer. Fails if memory for the buffer can't be allocated.
     pub fn new(alloc: Global, writer: W) -> Result<Buffered<W>, AllocError>
     where
         W: Drop,
@@ -53,7 +55,7 @@ impl<W: Write> Buffered<W> {
         })
     }
 
-    /// The writer, without what waits.
+    /// Returns the underlying writer. The waiting bytes are lost.
     pub fn into_writer(self) -> W
         ensures { result ≡ self.writer }
     {
@@ -65,7 +67,7 @@ impl<W: Write> Buffered<W> {
         writer
     }
 
-    // Hands on what waits, until a write fails or takes nothing.
+    // Writes the waiting bytes, until a write fails or accepts nothing.
     fn hand_on(&mut self) -> io::Result<()>
         ensures bytes { Keeps (append_known (W.contents self.old.writer) self.old.waiting) (append_known (W.contents self.new.writer) self.new.waiting) }
         ensures empty { OnOk result (self.new.waiting ≡ []) }
@@ -81,7 +83,7 @@ impl<W: Write> Buffered<W> {
         Err(Error::from(ErrorKind::WriteZero))
     }
 
-    // Puts a piece behind what waits.
+    // Appends a piece to the waiting bytes.
     #[inline(always)]
     fn put(&mut self, piece: &[u8])
         requires room { length self.old.waiting + length piece.now ≤ CAPACITY }
@@ -93,7 +95,7 @@ impl<W: Write> Buffered<W> {
         self.count = end;
     }
 
-    // Writes a piece that the buffer has no room for. The error is that of a write below.
+    // Writes a piece for which the buffer has no room. The error is that of an underlying write.
     #[cold]
     #[inline(never)]
     fn write_behind(&mut self, piece: &[u8]) -> Result<usize, DeviceFault>

@@ -10,14 +10,14 @@ use std::io;
 use std::io::Write;
 use thiserror::Error;
 
-/// A read or a write failed, or a write took nothing. Interrupted calls count as failed.
+/// A read or a write failed, or a write accepted nothing. An interrupted call counts as failed.
 #[derive(Clone, Copy, Debug, Error, PartialEq, Eq)]
 #[error("a read or a write failed, or a write took nothing")]
 pub struct DeviceFault;
 
-/// Reads until the buffer is full or the input ends, and returns how many bytes were read.
+/// Reads until the buffer is full or the input ends, and returns the number of bytes read.
 ///
-/// At an error some bytes were read, and are lost.
+/// If it fails, the bytes that were read before the error are lost.
 pub fn read_full<R: Incoming, W: Outgoing>(
     reader: &mut R,
     out: &W,
@@ -40,7 +40,7 @@ pub fn read_full<R: Incoming, W: Outgoing>(
     Ok(at)
 }
 
-// Reads once where nothing is at hand.
+// Reads once if nothing is buffered.
 fn fill_if_empty<R: Incoming, W: Outgoing>(reader: &mut R, out: &W) -> io::Result<()>
     requires nothing_waits { W.waiting out.now ≡ [] }
     ensures bytes { Keeps (R.remaining reader.old) (R.remaining reader.new) }
@@ -52,7 +52,7 @@ fn fill_if_empty<R: Incoming, W: Outgoing>(reader: &mut R, out: &W) -> io::Resul
     Ok(())
 }
 
-// Moves bytes at hand into the buffer, as many as both have, after a read where nothing is at hand.
+// Reads if nothing is buffered, and then copies as many of the buffered bytes as fit into `buf`.
 fn read_some<R: Incoming, W: Outgoing>(reader: &mut R, out: &W, buf: &mut [u8]) -> io::Result<usize>
     requires nothing_waits { W.waiting out.now ≡ [] }
     ensures bound { ReadsAtMost result buf.new }
@@ -70,7 +70,8 @@ fn read_some<R: Incoming, W: Outgoing>(reader: &mut R, out: &W, buf: &mut [u8]) 
 }
 
 #[inline(always)]
-/// Writes the piece, and answers how many of its bytes went out: all of them, unless a write failed or took nothing.
+/// Writes the piece, and returns how many of its bytes were written: all of them, unless a write failed or accepted
+/// nothing.
 pub fn write_out<W: Write>(writer: &mut W, piece: &[u8]) -> usize
     ensures bound { result ≤ length piece.now }
     ensures bytes { Appends (W.contents writer.old) (W.contents writer.new) (take result piece.now) }
@@ -87,7 +88,7 @@ pub fn write_out<W: Write>(writer: &mut W, piece: &[u8]) -> usize
     sent + write_in_parts(writer, &piece[sent..])
 }
 
-// The same, where the first write did not take the whole piece.
+// Continues `write_out` after a first write that did not accept the whole piece.
 #[cold]
 #[inline(never)]
 fn write_in_parts<W: Write>(writer: &mut W, piece: &[u8]) -> usize
@@ -104,7 +105,7 @@ fn write_in_parts<W: Write>(writer: &mut W, piece: &[u8]) -> usize
     sent
 }
 
-/// Writes the whole piece, and flushes it.
+/// Writes the whole piece, and flushes the writer.
 pub fn write_whole<W: Write>(writer: &mut W, piece: &[u8]) -> Result<(), DeviceFault>
     ensures whole { OnOk result (Appends (W.contents writer.old) (W.contents writer.new) piece.now) }
 {

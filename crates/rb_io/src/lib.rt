@@ -1,9 +1,9 @@
-//! Reading and writing for commands: whole pieces over any reader and any writer, a writer behind a buffer, and the words in which lines
-//! of output are told (`specs/Lines.antt`).
+//! Input and output for commands: reads and writes of whole pieces over any reader and any writer, a buffered reader
+//! and writer, and the format of lines of output (`specs/Lines.antt`).
 //!
-//! For whoever writes a command of the program. What is promised: which bytes were read or went out, by each answer, an interrupted call
-//! counted as one that failed; that what a buffer holds is what went and what waits; and that what it gathered was handed on where its `write_out`
-//! or `flush` answers Ok.
+//! The commands of the program use it. Proved: which bytes were read or written, for each result of a call, where an
+//! interrupted call counts as failed; that a buffer has written or still holds each byte that it accepted; and that it
+//! has written all of them if its `write_out` or `flush` returned Ok.
 #![tactic(auto)]
 
 mod ahead;

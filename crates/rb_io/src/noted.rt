@@ -1,25 +1,26 @@
-//! A reader and a writer that keep what was said of a call that failed.
+//! A reader and a writer that keep the error of a call that failed.
 
 use std::io;
 use std::io::{Error, Read, Write};
 use std::marker::Model;
 
-/// How many bytes from the front of an input are looked at.
+/// The number of bytes at the start of an input that are examined.
 const LOOKED_AT: u64 = 65_536;
 
-/// What was seen of an input's front.
+/// What is known about the start of an input.
 #[derive(Clone, Copy, Debug, Default, PartialEq, Eq)]
 pub struct Front {
-    /// How many bytes were read, up to 2^64 - 1.
+    /// The number of bytes read; saturates at `u64::MAX`.
     pub count: u64,
-    /// How many of the first 65,536 are hex digits, up to the first that is neither a digit nor ASCII white space.
+    /// How many of the first 65,536 bytes are hex digits, before the first one that is neither a digit nor ASCII white
+    /// space.
     pub digits: u64,
-    /// Where that byte stands, and which it is.
+    /// The offset of that byte, and the byte.
     pub odd: Option<(u64, u8)>,
 }
 
 impl Front {
-    // The same behind more bytes.
+    // Adds the next bytes of the input.
     fn add(&mut self, bytes: &[u8]) {
         let mut at = self.count;
         for byte in bytes {
@@ -37,13 +38,14 @@ impl Front {
     }
 }
 
-/// Reads what another reader gives, and keeps the error of the last read where it failed, and what was seen of the input's front.
+/// A reader that keeps the error of the last read of another reader, if it failed, and what is known about the start of
+/// the input.
 #[derive(Drop)]
 pub struct NotedReader<R> {
     reader: R,
-    /// The error of the last read, where it failed.
+    /// The error of the last read, if it failed.
     pub error: Option<Error>,
-    /// What was seen of the input's front.
+    /// What is known about the start of the input.
     pub front: Front,
 }
 
@@ -56,7 +58,7 @@ impl<R> Model for NotedReader<R> {
 impl<R> NotedReader<R> {
     ghost use Rattle.std.specs.Prelude.{◌≡◌};
 
-    /// A reader over this one, of which nothing was read.
+    /// Returns a reader over this one, from which nothing was read.
     pub fn new(reader: R) -> NotedReader<R>
         ensures { result ≡ reader }
     {
@@ -86,11 +88,11 @@ impl<R: Read> Read for NotedReader<R> {
     }
 }
 
-/// Writes to another writer, and keeps the error of the last write or flush where it failed.
+/// A writer that keeps the error of the last write or flush of another writer, if it failed.
 #[derive(Drop)]
 pub struct NotedWriter<W> {
     writer: W,
-    /// The error of the last write or flush, where it failed.
+    /// The error of the last write or flush, if it failed.
     pub error: Option<Error>,
 }
 
@@ -103,7 +105,7 @@ impl<W> Model for NotedWriter<W> {
 impl<W> NotedWriter<W> {
     ghost use Rattle.std.specs.Prelude.{◌≡◌};
 
-    /// A writer over this one, to which nothing was written.
+    /// Returns a writer over this one, to which nothing was written.
     pub fn new(writer: W) -> NotedWriter<W>
         ensures { result ≡ writer }
     {

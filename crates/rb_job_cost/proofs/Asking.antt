@@ -35,7 +35,7 @@ granted_bytes ring (Output r len flags (pos (suc n))) = omega arith
 granted_bytes ring (Output r len flags (negsuc n)) = omega arith
 granted_bytes ring (Query r what answer) = omega arith
 
--- nothing behind it
+-- followed by nothing
 alone : (xs : List Request) (n : ℕ) → requested_bytes xs ≤ n → requested_bytes (xs ++ []) ≤ n
 alone xs n le = let both : requested_bytes (xs ++ []) ≡ requested_bytes xs + requested_bytes [] = joined xs [] in omega arith
 

@@ -1,4 +1,4 @@
--- What each call leaves in the history of a ring.
+-- The requests that each call leaves in a ring's history.
 use Rattle.std.proofs.Common.{◌≡◌, ◌≢◌, ◌⊎◌, inl, inr, ⊎_elim, ℕ, zero, suc, ◌<◌, refl, sym, ◌∙◌, ap, subst, ℤ, pos, neg_ℤ, Bool, true, false, cond, List, [], ◌∷◌, ◌++◌, length, set, Option, Some, None, arith, append_assoc, append-nil}
 use Rattle.std.specs.Prelude.{is_some, slice_get}
 use Rattle.std.specs.List.{cons_option}
@@ -26,7 +26,7 @@ use Rattle.rb_job_cost.specs.JobRequests.{Request, request_of, requests_of, requ
 
 -- ---- histories
 
--- an entry that is not the worker's own is no request of its
+-- another worker's entry is no request of this worker
 not_own : (w : ℕ) (before : List Entry) (e : Entry) → is_own (Worker w) before e ≡ false → request_of w e ≡ None
 not_own w before (Res v k n p) is = ap (λ b. cond b (Some (record { len = n; granted = true })) None) is
 not_own w before (Full v n) is = ap (λ b. cond b (Some (record { len = n; granted = false })) None) is
@@ -38,7 +38,7 @@ none_own : (w : ℕ) (before es : List Entry) → NoneOwn (Worker w) before es �
 none_own w before [] h = refl
 none_own w before (e ∷ es) h = ap (λ o. cons_option o (requests_of w es)) (not_own w before e h.0) ∙ none_own w (before ++ e ∷ []) es h.1
 
--- a call under the lock adds the requests of its entries
+-- a call under the lock appends the requests of its entries
 locked_adds : (w : ℕ) (before after : Book) (Call : Ring → Ring → Type 0) (entries : List Entry) (c : LockedCall (Worker w) before after Call) → c.left.history ≡ c.point.history ++ entries
     → requests_of w after.history ≡ requests_of w before.history ++ requests_of w entries
 locked_adds w before after Call entries c logged =
@@ -81,7 +81,7 @@ full_adds n b a did =
       requests = locked_adds b.worker b.seen a.seen _ _ c c.called.called.0.logged.history_is ∙ ap (λ xs. requests_of b.worker b.seen.history ++ xs) (refused_entry b.worker n);
     }
 
--- a call that changes nothing of the ring
+-- a call that changes nothing in the ring
 same_ring : (b a : WorkerSeat) (Call : Ring → Ring → Type 0) (c : LockedCall (Worker b.worker) b.seen a.seen Call) → c.left ≡ c.point → a.worker ≡ b.worker → AddsRequests b a []
 same_ring b a Call c same worker =
     record { same_worker = worker; requests = locked_adds b.worker b.seen a.seen Call [] c (ap (λ (v : Ring). v.history) same ∙ sym (append-nil c.point.history)) }
@@ -111,14 +111,14 @@ output_adds bytes flags due b a c =
       requests = locked_adds b.worker b.seen a.seen _ _ c c.called.called.0.0.logged.history_is ∙ ap (λ xs. requests_of b.worker b.seen.history ++ xs) (granted_entry b.worker (grants b.worker c.point.history) (length bytes) (producer_now c.point) (Sub (producer_now c.point) ∷ []));
     }
 
--- a seat that was refused a record leaves the request refused, or none
+-- a seat that was refused a record leaves a refused request, or none
 refusal_adds : (Uncalled : WorkerSeat → Type 0) (n unlogged : ℕ) (b a : WorkerSeat) → SeatIsRefused Uncalled n unlogged b a
     → AddsRequests b a [] ⊎ AddsRequests b a (record { len = n; granted = false } ∷ [])
 refusal_adds Uncalled n unlogged b a (inl full) = inr (full_adds n b a full.0)
 refusal_adds Uncalled n unlogged b a (inr (inl gave_up)) = inl (chapter_full_adds n b a gave_up.0.at_last)
 refusal_adds Uncalled n unlogged b a (inr (inr uncalled)) = inl (unchanged b a uncalled.1)
 
--- ---- all seats of a worker, by one call
+-- ---- all seats of a worker, in one call
 
 at_own : (r len : ℕ) (granted : Bool) → request_at r r len granted ≡ record { len = len; granted = granted } ∷ []
 at_own r len granted = ap (λ b. cond b (record { len = len; granted = granted } ∷ []) []) (eq-eqb r r refl)
@@ -126,7 +126,7 @@ at_own r len granted = ap (λ b. cond b (record { len = len; granted = granted }
 at_other : (ring r len : ℕ) (granted : Bool) → ring ≢ r → request_at ring r len granted ≡ []
 at_other ring r len granted other = ap (λ b. cond b (record { len = len; granted = granted } ∷ []) []) (ne_eqb r ring (λ e. other (sym e)))
 
--- at each ring the call leaves what it may
+-- at each ring the call leaves what it may leave there
 abbrev LeavesAt : Done → ℕ → WorkerSeat → List WorkerSeat → Type 0
 LeavesAt call ring b new = (a : WorkerSeat) × (left : List Request) × (slice_get new ring ≡ Some a) × AddsRequests b a left × MayLeave ring call left
 
@@ -169,7 +169,7 @@ reserve_leaves r n zero unlogged old new None due did =
     (λ ring other. inl refl)
 reserve_leaves r n (suc flags) unlogged old new None due did = leaves_nowhere (Reserve r n (suc flags) false) old new (did.0.1 (λ e. absurd (omega (arith, e)))).0 (λ ring. inl refl)
 
--- a record that is given back leaves no request
+-- ending a record leaves no request
 given_leaves : (call : Done) (r : ℕ) (taken due : Bool) (Did : WorkerSeat → WorkerSeat → Type 0) (old new : List WorkerSeat) → ((b a : WorkerSeat) → Did b a → AddsRequests b a []) → ((ring : ℕ) → MayLeave ring call [])
     → RecordAnswered r taken due Did old new → CallLeaves call old new
 given_leaves call r taken due Did old new adds may did =
@@ -213,7 +213,7 @@ call_leaves (SentOut r bytes flags answer) due unlogged old new did = output_lea
 call_leaves (Queried r what answer) due unlogged old new did =
     leaves_one (Query r what answer) r _ old new did.0 ([], query_adds what answer did.0.before did.0.after did.0.did, inl refl) (λ ring other. inl refl)
 
--- ---- calls one after the other
+-- ---- a sequence of calls
 
 pub calls_leave : CallsLeaveRequests
 calls_leave old new [] unlogged ring before led got =

@@ -1,4 +1,5 @@
--- What jobs ask of their rings at most: the requests that they leave in the rings' histories are within the costs of their programs (own).
+-- Upper bounds on what jobs request from their rings: the requests that they leave in the rings' histories are within
+-- the costs of their programs (own).
 use Rattle.std.specs.Prelude.{◌≡◌, ℕ, ◌<◌, ◌≤◌, List, sum_by, slice_get, Some}
 use Rattle.rb_history.specs.Span.{span}
 use Rattle.rb_call_cost.specs.CallCosts.{IsVerified}
@@ -10,11 +11,12 @@ use Rattle.rb_jobs.specs.declared.job.JobAnswer.{JobAnswer}
 use Rattle.rb_jobs.specs.Jobs.{Task, JobRan}
 use Rattle.rb_job_cost.specs.JobRequests.{Request, AddsRequests}
 
--- how many bytes of a ring requests ask for: the spans of their records, granted and refused alike
+-- the number of bytes that requests ask for: the spans of their records, granted and refused alike
 abbrev pub requested_bytes : List Request → ℕ
 requested_bytes left = sum_by (λ q. span q.len) left
 
--- A job led from one state of its worker's seat at a ring to another. The requests that it left there take no more bytes than the cost of its program has.
+-- A job led from one state of its worker's seat at a ring to another. The requests that it left there take at most the
+-- bytes in its program's cost for the ring.
 pub record AsksWithin (ring : ℕ) (cost : Cost) (before : WorkerSeat) (new : List WorkerSeat) : Type 0 where
   pub after : WorkerSeat
   pub left : List Request
@@ -22,7 +24,7 @@ pub record AsksWithin (ring : ℕ) (cost : Cost) (before : WorkerSeat) (new : Li
   pub adds : AddsRequests before after left
   pub within : requested_bytes left ≤ (ring_cost_at cost ring).bytes
 
--- so it is of every job of a verified program, at each ring that the program knows, whatever its calls are answered
+-- this holds for every job of a verified program, at each ring that the program knows, whatever its calls are answered
 abbrev pub JobsAskWithin : Type 0
 JobsAskWithin =
     (task : Task) (answer : JobAnswer) (old new : List WorkerSeat) (cost : Cost) (ring : ℕ) (before : WorkerSeat) → JobRan task answer old new → IsVerified task.program

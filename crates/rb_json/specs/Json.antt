@@ -1,4 +1,4 @@
--- Words of JSON, as bytes (RFC 8259 has numbers and strings; which fields stand beside one another is own).
+-- JSON values, as bytes (RFC 8259 defines numbers and strings; the choice of fields is own).
 use Rattle.std.specs.Prelude.{ℕ, ◌^◌, ◌==◌, nat_le, nat_lt, List, [], ◌∷◌, ◌++◌, codes, if◌then◌else◌}
 use Rattle.std.specs.Fmt.{decimal}
 use Rattle.std.specs.List.{flat_map}
@@ -9,11 +9,11 @@ use Rattle.hex.specs.Hex.{encode_lower}
 abbrev pub quoted : List ℕ → List ℕ
 quoted text = 34 ∷ text ++ 34 ∷ []
 
--- a number; one above 2^53, which not every reader keeps exactly, as a string
+-- a number; one greater than 2^53, which not every parser keeps exactly, is a string
 unfoldable pub json_number : ℕ → List ℕ
 json_number n = if nat_le n (2 ^ 53) then decimal n else quoted (decimal n)
 
--- a byte of a text: a quotation mark and a backslash behind a backslash, a control character by its code
+-- a byte of a string: a quotation mark or backslash with a backslash before it, a control character as its code
 abbrev pub escaped : ℕ → List ℕ
 escaped byte =
     if byte == 34 then 92 ∷ 34 ∷ []
@@ -25,10 +25,10 @@ escaped byte =
 abbrev pub json_text : List ℕ → List ℕ
 json_text text = quoted (flat_map escaped text)
 
--- bytes that are no UTF-8 are no text; others are told as one
+-- the text field: none if the bytes are not UTF-8, otherwise the bytes as a string
 abbrev pub text_field : List ℕ → List ℕ
 text_field bytes = if is_utf8 bytes then codes ",\"text\":" ++ json_text bytes else []
 
--- a payload: its bytes in hex and, where they are UTF-8, as a text
+-- the fields of a payload: its bytes in hex and, if they are UTF-8, as a text
 unfoldable pub payload_fields : List ℕ → List ℕ
 payload_fields bytes = codes "\"hex\":" ++ quoted (encode_lower bytes) ++ text_field bytes

@@ -1,10 +1,10 @@
-//! How a line of output is written.
+//! The format of a line of output.
 
-/// How lines of output are written.
+/// The format of lines of output.
 #[derive(Clone, Copy, Debug, PartialEq, Eq)]
 pub enum LineForm {
-    /// As words, to be read by people.
+    /// Words, for people to read.
     Words,
-    /// As an object of JSON each (JSON Lines).
+    /// One JSON object a line (JSON Lines).
     Json,
 }

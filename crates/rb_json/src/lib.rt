@@ -1,7 +1,8 @@
-//! Words of JSON as exact text, for lines of output: numbers, texts, and the bytes of a payload (RFC 8259).
+//! JSON values as exact text, for lines of output: numbers, strings, and the bytes of a payload (RFC 8259).
 //!
-//! A number above 2^53 is written as a string, since many readers keep a number as a float of 64 bits. A payload is hex and, where it is UTF-8, a text
-//! too. Proved: what is added to a line is exactly the word of the definitions.
+//! A number greater than 2^53 is written as a string, since many parsers keep a number as a 64-bit float. A payload is
+//! written in hex and, if it is UTF-8, also as a text. Proved: what is appended to a line is exactly the text that the
+//! definitions give.
 //!
 //! ```text
 //! push_number(&mut line, 42)?;                    // 42

@@ -1,4 +1,4 @@
-//! The words.
+//! Functions that append JSON values to a line.
 
 ghost use Rattle.std.specs.Prelude.{◌≡◌, ◌++◌, OnOk};
 ghost use Rattle.hex.specs.Hex.{encode_lower};
@@ -8,11 +8,11 @@ ghost use Rattle.rb_json.specs.Json.{escaped, json_number, json_text, payload_fi
 use itoa::Buffer;
 use std::alloc::{AllocError, Global};
 
-/// The largest number that each reader of JSON keeps exactly: 2^53.
+/// The largest number that every JSON parser keeps exactly: 2^53.
 const EXACT: u64 = 1 << 53;
 
 #[tactic(auto, unfolding(crate::specs::Json::json_number))]
-/// Adds a number; one above 2^53 as a string.
+/// Appends a number; one greater than 2^53 as a string.
 pub fn push_number(line: &mut Vec<u8>, number: u64) -> Result<(), AllocError>
     ensures number { OnOk result (line.new.items ≡ line.old.items ++ json_number number) }
 {
@@ -26,7 +26,7 @@ pub fn push_number(line: &mut Vec<u8>, number: u64) -> Result<(), AllocError>
 }
 
 #[tactic(auto, unfolding(crate::specs::Json::json_number))]
-/// Adds a number that may be wider than 64 bits; one above 2^53 as a string.
+/// Appends a number that may be wider than 64 bits; one greater than 2^53 as a string.
 pub fn push_wide_number(line: &mut Vec<u8>, number: u128) -> Result<(), AllocError>
     ensures number { OnOk result (line.new.items ≡ line.old.items ++ json_number number) }
 {
@@ -39,7 +39,7 @@ pub fn push_wide_number(line: &mut Vec<u8>, number: u128) -> Result<(), AllocErr
     line.extend_from_slice(b"\"")
 }
 
-/// Adds what stands in front of a number, as the name of its field, and the number.
+/// Appends `front`, for example the name of a field, and then the number.
 pub fn push_field(line: &mut Vec<u8>, front: &[u8], number: u64) -> Result<(), AllocError>
     ensures field { OnOk result (line.new.items ≡ line.old.items ++ front.now ++ json_number number) }
 {
@@ -47,7 +47,7 @@ pub fn push_field(line: &mut Vec<u8>, front: &[u8], number: u64) -> Result<(), A
     push_number(line, number)
 }
 
-// Adds bytes in hex.
+// Appends bytes in hex.
 fn push_hex(alloc: Global, line: &mut Vec<u8>, bytes: &[u8]) -> Result<(), AllocError>
     ensures hex { OnOk result (line.new.items ≡ line.old.items ++ encode_lower bytes.now) }
 {
@@ -55,7 +55,7 @@ fn push_hex(alloc: Global, line: &mut Vec<u8>, bytes: &[u8]) -> Result<(), Alloc
     line.extend_from_slice(hex.as_bytes())
 }
 
-// Adds a byte of a text.
+// Appends a byte of a string, escaped if necessary.
 fn push_byte(alloc: Global, line: &mut Vec<u8>, byte: u8) -> Result<(), AllocError>
     ensures byte { OnOk result (line.new.items ≡ line.old.items ++ escaped byte) }
 {
@@ -72,7 +72,7 @@ fn push_byte(alloc: Global, line: &mut Vec<u8>, byte: u8) -> Result<(), AllocErr
     line.extend_from_slice(&[byte])
 }
 
-// Adds the bytes of a text.
+// Appends the bytes of a string, escaped.
 fn push_bytes(alloc: Global, line: &mut Vec<u8>, text: &[u8]) -> Result<(), AllocError>
     ensures bytes { OnOk result (line.new.items ≡ line.old.items ++ flat_map escaped text.now) }
 {
@@ -82,7 +82,7 @@ fn push_bytes(alloc: Global, line: &mut Vec<u8>, text: &[u8]) -> Result<(), Allo
     Ok(())
 }
 
-/// Adds a text as a string.
+/// Appends a text as a string.
 pub fn push_text(alloc: Global, line: &mut Vec<u8>, text: &str) -> Result<(), AllocError>
     ensures text { OnOk result (line.new.items ≡ line.old.items ++ json_text text.now) }
 {
@@ -91,7 +91,7 @@ pub fn push_text(alloc: Global, line: &mut Vec<u8>, text: &str) -> Result<(), Al
     line.extend_from_slice(b"\"")
 }
 
-// Adds the field of a payload's text, where it is one.
+// Appends the text field of a payload if the payload is UTF-8.
 fn push_text_field(alloc: Global, line: &mut Vec<u8>, bytes: &[u8]) -> Result<(), AllocError>
     ensures field { OnOk result (line.new.items ≡ line.old.items ++ text_field bytes.now) }
 {
@@ -105,7 +105,7 @@ fn push_text_field(alloc: Global, line: &mut Vec<u8>, bytes: &[u8]) -> Result<()
 }
 
 #[tactic(auto, unfolding(crate::specs::Json::payload_fields))]
-/// Adds the fields of a payload: its bytes in hex and, where they are UTF-8, as a text.
+/// Appends the fields of a payload: its bytes in hex and, if they are UTF-8, as a text.
 pub fn push_payload(alloc: Global, line: &mut Vec<u8>, bytes: &[u8]) -> Result<(), AllocError>
     ensures fields { OnOk result (line.new.items ≡ line.old.items ++ payload_fields bytes.now) }
 {

@@ -1,4 +1,4 @@
--- How histories go on from one another.
+-- How histories continue one another.
 use Rattle.std.proofs.Common.{◌≡◌, List, [], ◌++◌, refl, ap, sym, ◌∙◌, subst, append-nil, append_assoc}
 use Rattle.rb_history.specs.declared.entries.Entry.{Entry}
 use Rattle.rb_history.specs.RingModel.{Ring}
@@ -17,11 +17,11 @@ begins_through a b c first second =
       history_is = second.history_is ∙ (ap (λ h. h ++ second.behind) first.history_is ∙ append_assoc a.history first.behind second.behind);
     }
 
--- it goes on with entries of others alone
+-- it continues with entries of others only
 pub extended_begins : (role : Role) (b c : Book) → ExtendsSeen role b c → BeginsWith c b
 extended_begins role b c extends = record { setup_same = extends.setup_same; behind = extends.behind; history_is = extends.history_is }
 
--- it goes on with entries that a call logged
+-- it continues with entries that a call logged
 pub logged_begins : (old new : Ring) (entries : List Entry) → Logs old new entries → BeginsWith (book_of new) (book_of old)
 logged_begins old new entries logged = record { setup_same = logged.setup_same; behind = entries; history_is = logged.history_is }
 

@@ -1,4 +1,4 @@
--- What the tests of chapters that are bound tell.
+-- What the tests of chapters that are bound determine.
 use Rattle.std.proofs.Common.{◌≡◌, ◌↔◌, ℕ, ◌+◌, ◌==◌, ◌&&◌, Bool, IsTrue, true, false, List, [], ◌∷◌, ◌++◌, map, length, replicate, refl, sym, ap, ◌∙◌, subst, arith}
 use Rattle.std.proofs.lemmas.Bool.{and_parts, eqb-true, eq-eqb, true≢false}
 use Rattle.std.proofs.lemmas.List.{length-map}
@@ -51,7 +51,7 @@ pub none-mapped : {A B : Type 0} (f : A → B) (xs : List A) → length xs ≡ 0
 none-mapped f [] none = refl
 none-mapped f (x ∷ xs) none = absurd (omega (arith, none))
 
--- the totals that a chapter begins with are one for each worker
+-- a chapter's opening has totals for each worker
 tallies-of-kept : (earlier : List Entry) (c : Chapter) → IsKept earlier c → length c.opening.tallies ≡ c.opening.setup.workers
 tallies-of-kept earlier c kept =
     ap (λ (o : Standing). length o.tallies) kept.continues.opened ∙ length-map (numbers_below c.opening.setup.workers) (λ w. tally_of w earlier) ∙ length-below c.opening.setup.workers

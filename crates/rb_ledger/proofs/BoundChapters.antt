@@ -29,13 +29,13 @@ use Rattle.rb_ledger.specs.ChapterClosing.{AreNumberedFrom, EachGoesOn, MayBind,
 use Rattle.rb_ledger.specs.ChapterHeadline.{AllLegal, BindsWhereItMay, HandedOutBind, TiedOnceBound, bound_ring, GatheredOnceBound}
 use Rattle.rb_ledger.specs.inner.BindingLoops.{EachFollows, AreOpenedInTurn}
 
--- ---- chapters that go on from the empty history are those that are opened in turn
+-- ---- chapters that continue the empty history are those that are opened in turn
 
 follows-setup : (c : Chapter) (cs : List Chapter) (last : Chapter) → EachFollows c (cs ++ last ∷ []) → last.opening.setup ≡ c.opening.setup
 follows-setup c [] last follow = ap (λ (o : Standing). o.setup) follow.0
 follows-setup c (d ∷ cs) last follow = follows-setup d cs last follow.1 ∙ ap (λ (o : Standing). o.setup) follow.0
 
--- an opening of an empty ring is one with its own setup
+-- the opening of an empty ring is the one of its own setup
 own-setup : (o : Standing) (r : Setup) → o ≡ empty_ring r → o ≡ empty_ring o.setup
 own-setup o r is = is ∙ ap empty_ring (sym (ap (λ (x : Standing). x.setup) is))
 
@@ -43,7 +43,7 @@ all-and : (cs : List Chapter) (last : Chapter) → AllLegal cs → IsLegalChapte
 all-and [] last legal at_last = (at_last, tt)
 all-and (c ∷ cs) last legal at_last = (legal.0, all-and cs last legal.1 at_last)
 
--- a legal chapter that opens with what a legal history stands for ends with what both stand for
+-- a legal chapter whose opening is the summary of a legal history ends with the summary of both
 ends-with : (r : Setup) (h : List Entry) (c : Chapter) → IsLegal r h → c.opening ≡ standing_of r h → IsLegalChapter c → IsLegal r (h ++ c.entries) × (closing_of c ≡ standing_of r (h ++ c.entries))
 ends-with r h c l opened legal = let both = goes-on r h c.opening l opened c.entries in (both.0.0 legal, (both.1 legal).stands)
 
@@ -73,7 +73,7 @@ goes-in-turn (c ∷ cs) last legal at_last goes =
     let r = last.opening.setup in
     (own-setup c.opening r (goes.0 ∙ sym (empty-is r)), goes-follow r [] c (cs ++ last ∷ []) (kept-none r).legal goes.0 legal.0 (all-and cs last legal.1 at_last) goes.1)
 
--- ---- chapters that may be bound are a ring's
+-- ---- chapters that may be bound are those of a ring
 
 meets-each : (n : ℕ) (c : Chapter) (cs : List Chapter) (last : Chapter) → c.number ≡ n → AreNumberedFrom (n + 1) (cs ++ last ∷ []) → EachFollows c (cs ++ last ∷ []) → AllLegal cs → IsLegalChapter last → AreMeeting c (cs ++ last ∷ [])
 meets-each n c [] last is numbered follow legal at_last = (record { next_number = numbered.0 ∙ ap (λ x. x + 1) (sym is); goes_on = follow.0 }, at_last, tt)
@@ -116,7 +116,7 @@ all-legal (h ∷ hs) c a = let rest = behind h hs c a.3 in ((a.2, rest.0), rest.
     behind h [] c m = (tt, m.1)
     behind h (x ∷ hs) c m = let rest = behind x hs c m.2 in ((m.1, rest.0), rest.1)
 
--- those that a ring handed out may be bound
+-- the chapters that a ring handed out may be bound
 pub handed-out-may-bind : (hs : List Chapter) (last : Chapter) → Binds hs last → MayBind hs last
 handed-out-may-bind hs last b =
     let legal = all-legal hs last (handed-out-are hs last b) in
@@ -136,7 +136,7 @@ opens-behind : (r : Setup) (h : List Entry) (cs : List Chapter) (last : Chapter)
 opens-behind r h [] last goes = goes.0 ∙ ap (standing_of r) (sym (append-nil h))
 opens-behind r h (c ∷ cs) last goes = opens-behind r (h ++ c.entries) cs last goes.1 ∙ ap (standing_of r) (append_assoc h c.entries (joined cs))
 
--- the last chapter goes on from those that were handed out
+-- the last chapter continues those that were handed out
 pub gathered-continues : (last : ChapterRing) (seats : List WorkerSeat) (consumer : ChapterConsumerSeat) → IsGatheredByChapters last seats consumer → ContinuesHistory (joined consumer.handed_out) last.chapter
 gathered-continues last seats consumer g =
     let r = last.chapter.opening.setup in
@@ -158,7 +158,7 @@ gathered-bind last seats consumer g =
     let is = gathered-continues last seats consumer g in
     (binds-where-it-may consumer.handed_out last.chapter (front-legal last.chapter.opening.setup [] consumer.handed_out last.chapter g.may_bind.opened is.earlier_legal) is.legal).0 g.may_bind
 
--- ---- whatever was bound, the last chapter stands for it
+-- ---- whatever was bound, its summary is the one at the end of the last chapter
 
 module _ (last : ChapterRing) (seats : List WorkerSeat) (consumer : ChapterConsumerSeat) (chapters : List Chapter) (history : List Entry) (g : IsGatheredByChapters last seats consumer) (b : IsBound chapters last.chapter history) where
   whole : List Entry

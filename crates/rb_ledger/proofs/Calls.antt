@@ -1,4 +1,4 @@
--- After each call on the state that it has out, a role may put it back.
+-- After each call on the state that it holds, a role may put the state back.
 use Rattle.std.proofs.Common.{◌≡◌, ℕ, ◌||◌, Bool, true, false, List, [], ◌∷◌, ◌++◌, Option, Some, None, is_some, inl, inr, length, refl, sym, ap, ◌∙◌, subst, append_assoc, append-nil, arith, Result, Ok, Err}
 use Rattle.std.specs.FinMap.{get, insert}
 use Rattle.std.proofs.lemmas.Bool.{eq-eqb, false_from_ne_true}
@@ -40,7 +40,7 @@ StepIn = RoleStep
 pub same-contents : (a b : Contents) → b ≡ a → IsWithin b a
 same-contents a b e p bytes is = ap (λ (m : Contents). get m p) (sym e) ∙ is
 
--- the ring goes on by entries that submit nothing, and the role's bytes stand
+-- the ring continues with entries that submit nothing, and the role's bytes do not change
 quiet-done : (s : Ledger) (new : Ring) (role : Role) (seen : Book) (bytes : Contents) (added : List Entry) → Logs s.ring new added → IsWithin new.contents s.ring.contents → AllOwn role s.ring.history added → IsRing new
     → bytes_after role s.ring new added bytes ≡ bytes → FitsLedger s (role_knowledge role seen bytes) → Done s new (role_knowledge role seen bytes)
 quiet-done s new role seen bytes added logs contents own is_ring same fit =
@@ -55,7 +55,7 @@ pub no-bytes : (role : Role) (old new : Ring) (bytes : Contents) → bytes_after
 no-bytes Consumer old new bytes = refl
 no-bytes (Worker w) old new bytes = refl
 
--- the ring is as it was
+-- the ring is unchanged
 pub put-same : (role : Role) (seen : Book) (bytes : Contents) (old new : Ring) → new ≡ old → IsRing new → StepIn (role_knowledge role seen bytes) old new (knowledge_after old new (role_knowledge role seen bytes))
 put-same role seen bytes old new same is_ring =
     step-from (role_knowledge role seen bytes) old new (λ r. new ≡ r) same
@@ -143,7 +143,7 @@ module _ (w : ℕ) (seen : Book) (bytes : Contents) where
   put-output old new b flags (Ok _) call is_ring = step-from (role_knowledge (Worker w) seen bytes) old new (λ x. Outputs x new w b) call.0 (λ s c fit. outputs-done s new b c is_ring fit)
   put-output old new b flags (Err e) call is_ring = put-refused old new (length b) e.0 call.0 is_ring
 
--- what was got is still within, with the bytes that are there at one more position
+-- what was received is still within, with the bytes at one more position
 pub within-more : (got all : Contents) (p : ℕ) (b : List ℕ) → IsWithin got all → get all p ≡ Some b → IsWithin (insert got p b) all
 within-more got all p b old here q c is = elim (get-cases got p q b c is) [
   | inl now ↦ ap (get all) now.0 ∙ here ∙ ap Some now.1

@@ -1,4 +1,4 @@
--- The ring under the lock, and the one that all seats and the consumer were gathered for.
+-- The ring under the lock, and the one for which all seats and the consumer were gathered.
 use Rattle.std.proofs.Common.{◌≡◌, ℕ, List, [], ◌∷◌, ◌++◌, map, None, refl, sym, ap, ◌∙◌, subst}
 use Rattle.std.proofs.lemmas.List.{map-append}
 use Rattle.rb_history.specs.declared.entries.Entry.{Entry}
@@ -21,7 +21,7 @@ use Rattle.rb_chapter_ring.proofs.Chain.{binds-continue}
 use Rattle.rb_ledger.proofs.ChapterLock.{get-map, map-nil}
 use Rattle.rb_ledger.proofs.BoundChapters.{handed-out-may-bind, closed-ties}
 
--- a run is one up to any entry, and one behind it
+-- a run can be split at any entry
 run-cut : (old : Ring) (earlier entries : List Entry) → IsRunFrom old (earlier ++ entries) → (p : Ring) × IsRunTo old earlier p × IsRunFrom p entries
 run-cut old [] entries run = (old, refl, run)
 run-cut old (e ∷ earlier) entries run = let rest = run-cut run.0 earlier entries run.2 in (rest.0, (run.0, run.1, rest.1), rest.2)
@@ -44,7 +44,7 @@ whenever-free-by-chapter v views kept pass u at known =
       subst (λ room. AllKnowHandedOut room hs u.knows) (sym goes.room_same) (kept.each_knows pass u at).handed_out_known,
     )
 
--- what the last of some roles knows
+-- what the last of several roles knows
 pub known-last : (room : ℕ) (handed_out : List Chapter) (ks : List ChapterKnowledge) (k : ChapterKnowledge) → AllKnowHandedOut room handed_out (ks ++ k ∷ []) → k.whole.role ≡ Consumer → k.handed_out ≡ handed_out
 known-last room handed_out [] k known is = (known.0 is).1
 known-last room handed_out (x ∷ ks) k known is = known-last room handed_out ks k known.1 is

@@ -1,4 +1,5 @@
--- Each step at the lock of a ring over chapters keeps its rule, since it keeps the lock's rule over the whole history.
+-- Each step at the lock of a ring with chapters preserves its rule, since it preserves the lock's rule over the whole
+-- history.
 use Rattle.std.proofs.Common.{◌≡◌, ◌≢◌, ◌⊎◌, ℕ, zero, suc, ◌+◌, ◌<◌, Bool, true, false, true≢false, cond, List, [], ◌∷◌, ◌++◌, set, map, length, Option, Some, None, inl, inr, sym, refl, ap, ◌∙◌, subst, ⊎_elim, append_assoc, arith}
 use Rattle.std.proofs.lemmas.List.{map-set, map-append}
 use mathlib.Core.Option.{some, some-injective, some-ne-none}
@@ -27,7 +28,7 @@ use Rattle.rb_chapter_ring.specs.Chapters.{first_chapter}
 use Rattle.rb_chapter_ring.proofs.Empty.{empty-kept}
 use Rattle.std.specs.FinMap.{empty}
 
--- the rule, with the room and the chapters that it is about
+-- the rule, for this room and these chapters
 pub record KeepsRuleOf (room : ℕ) (handed_out : List Chapter) (queued : List ChapterRing) (views : List ChapterPassView) : Type 0 where
   pub rule : KeepsChapterLockRule queued views
   pub room_is : rule.room ≡ room
@@ -50,11 +51,11 @@ pub map-nil : {A B : Type 0} (f : A → B) (xs : List A) → map f xs ≡ [] →
 map-nil f [] e = refl
 map-nil f (x ∷ xs) e = absurd (cc)
 
--- the rule over the whole history, of views of which one was replaced
+-- the rule over the whole history, for views of which one was replaced
 set-whole : (items : List Ring) (views : List ChapterPassView) (pass : ℕ) (w : ChapterPassView) (x : PassView) → x ≡ whole_view w → KeepsLockRule items (set (map whole_view views) pass x) → KeepsLockRule items (map whole_view (set views pass w))
 set-whole items views pass w x is kept = subst (KeepsLockRule items) (ap (λ y. set (map whole_view views) pass y) is ∙ sym (map-set whole_view views pass w)) kept
 
--- ---- while one pass has the state out, no other has
+-- ---- while one pass holds the state, no other does
 
 state-count : (views : List PassView) → length (states_out views) ≡ total (λ v. length (state_list v.out)) views
 state-count [] = refl
@@ -72,7 +73,7 @@ apart : (b : Bool) (n : ℕ) → cond b 1 0 + n ≡ 0 → (b ≡ false) × (n �
 apart true n e = absurd (omega arith)
 apart false n e = (refl, omega arith)
 
--- where the consumer is not among the roles, they may know any chapters
+-- if the consumer is not among the roles, they may know any chapters
 known-none : (room : ℕ) (handed_out : List Chapter) (ks : List ChapterKnowledge) → role_count Consumer (whole_knowledge ks) ≡ 0 → AllKnowHandedOut room handed_out ks
 known-none room handed_out [] none = tt
 known-none room handed_out (k ∷ ks) none =
@@ -134,12 +135,12 @@ takes-of pass v none x items views kept at =
 pub takes : (pass : ℕ) (v : ChapterPassView) → v.out ≡ None → Pops KeepsChapterLockRule pass v (TakesChapterState v)
 takes pass v none x items views kept at = let done = takes-of pass v none x items views kept at in (done.0, done.1.rule, done.2.0)
 
--- while one pass has the state out, the queue is empty
+-- while one pass holds the state, the queue is empty
 pub away : (pass : ℕ) (v : ChapterPassView) (c : ChapteredRing) → v.out ≡ Some c → Learns KeepsChapterLockRule pass v (λ items. items ≡ [])
 away pass v c has items views kept at =
     map-nil (whole_ring (joined kept.handed_out)) items (old.away pass (whole_view v) (whole_of c) (ap whole_out has) (map (whole_ring (joined kept.handed_out)) items) (map whole_view views) kept.whole (get-map views pass v at))
 
--- and no other pass has a state out
+-- and no other pass holds a state
 none-out : (queued : List Ring) (views : List ChapterPassView) (pass : ℕ) (v : ChapterPassView) (c : ChapteredRing) → KeepsLockRule queued (map whole_view views) → v.out ≡ Some c → get_elem? views pass ≡ some v
     → (j : ℕ) (u : ChapterPassView) → j ≢ pass → get_elem? views j ≡ some u → u.out ≡ None
 none-out queued views pass v c kept has at j u other e =
@@ -150,7 +151,7 @@ none-out queued views pass v c kept has at j u other e =
     let all = state-count (map whole_view views) in
     none-counted u.out (omega arith)
 
--- ---- a pass of one role puts a state back
+-- ---- a pass with one role puts a state back
 
 module _ (n pass : ℕ) (me : ChapterKnowledge) (out : ChapteredRing) (new : ChapterRing) (has : HasChapters (chaptered_after out new)) (room_same : new.chapter.room ≡ out.ring.chapter.room)
     (by_consumer : (me.whole.role ≡ Consumer) ⊎ (handed_out_after out new ≡ out.handed_out))
@@ -162,7 +163,7 @@ module _ (n pass : ℕ) (me : ChapterKnowledge) (out : ChapteredRing) (new : Cha
   was : GoesOnFrom kept.room kept.handed_out out
   was = (kept.each_knows pass (chapter_view (me ∷ []) (Some out)) at).goes_on
 
-  -- another pass knows the chapters still: it has the consumer's role, or the chapters are the same
+  -- another pass still knows the chapters: it has the consumer's role, or the chapters are the same
   other-known : (j : ℕ) (u : ChapterPassView) → j ≢ pass → get_elem? views j ≡ some u → AllKnowHandedOut kept.room (handed_out_after out new) u.knows
   other-known j u other e = elim by_consumer [
     | inl consumer ↦
@@ -355,7 +356,7 @@ module _ (n pass : ℕ) (r : ChapterRing) (is_ring : IsRing (whole_of (chaptered
         refl,
       )
 
--- the first state is put in by the pass that has the one which nobody fits, and its roles come to be
+-- the pass that holds the unopened state puts the first state in, and gets its roles
 pub opens : (n pass : ℕ) (v : ChapterPassView) (r : ChapterRing) → v ≡ chapter_view [] (Some unopened_chapters) → IsRing (whole_of (chaptered_ring [] r)) → HasChapters (chaptered_ring [] r) → r.contents ≡ empty
     → Pushes KeepsChapterLockRule n pass v r (OpensChapterState v r)
 opens n pass v r is is_ring has nothing =
@@ -367,7 +368,7 @@ unopened-has =
     let kept = empty-kept 8 nobody in
     record { binds = handed-out-bind [] (first_chapter 8 nobody) (refl, refl, kept.continues.legal); room = kept.room; within = (omega arith, omega arith) }
 
--- before anything: one pass, which has the state that nobody fits
+-- initially there is one pass, which holds the unopened state
 pub begins-of : KeepsRuleOf 8 [] [] (chapter_view [] (Some unopened_chapters) ∷ [])
 begins-of = record {
   rule = record {

@@ -1,4 +1,5 @@
--- After each call on the state that it has out, a role may put it back, and after a chapter was handed out the consumer may.
+-- After each call on the state that it holds, a role may put the state back; and after a chapter was handed out, the
+-- consumer may.
 use Rattle.std.proofs.Common.{◌≡◌, [], ◌∷◌, ◌++◌, inl, inr, refl, sym, ap, ◌∙◌, subst, arith}
 use Rattle.std.proofs.lemmas.Bool.{eq-eqb, ne_eqb}
 use Rattle.rb_chapter_ring.specs.Chapters.{Chapter, IsChapterRoom, IsLegalChapter, joined}
@@ -16,7 +17,7 @@ use Rattle.rb_ledger.specs.ChapterLockLaws.{IsWholeStep, CallsMayPut, HandsOutMa
 use Rattle.rb_ledger.specs.ChapterLockSteps.{handed_out_after}
 use Rattle.rb_chapter_ring.proofs.Chain.{binds-continue, binds-same, binds-next, joined-next}
 
--- a ring whose chapter has other entries has a ring's chapters still
+-- a ring whose chapter has other entries still has the chapters of a ring
 pub has-same : (out : ChapteredRing) (new : ChapterRing) → HasChapters out → IsSameChapter out.ring new → IsLegalChapter new.chapter → HasRoomForOwed new.chapter → HasChapters (chaptered_ring out.handed_out new)
 has-same out new has same legal room =
     record { binds = binds-same out.handed_out out.ring.chapter new.chapter has.binds (ap (λ (c : Chapter). c.number) same) (ap (λ (c : Chapter). c.opening) same) legal; room = room; within = subst IsChapterRoom (sym (ap (λ (c : Chapter). c.room) same)) has.within }
@@ -39,7 +40,7 @@ calls-may-put me out new has same legal room step =
     }
 
 module _ (out : ChapteredRing) (new : ChapterRing) (c : Chapter) (has : HasChapters out) (hands : HandsOut out.ring new c) where
-  -- the ring's chapter goes behind those that were handed out
+  -- the ring's chapter is appended to those that were handed out
   pub handed-out-more : handed_out_after out new ≡ out.handed_out ++ out.ring.chapter ∷ []
   handed-out-more =
       let next = hands.next.next_is.next_number in
@@ -54,7 +55,7 @@ module _ (out : ChapteredRing) (new : ChapterRing) (c : Chapter) (has : HasChapt
       let next = next-room (joined out.handed_out) out.ring.chapter new.chapter continues has.room n.next_is n.no_entries n.room_same in
       record { binds = binds-next out.handed_out out.ring.chapter new.chapter has.binds n.next_is next.1.legal; room = next.0; within = subst IsChapterRoom (sym n.room_same) has.within }
 
-  -- the whole ring is as it was
+  -- the whole ring is unchanged
   pub handed-out-whole : whole_of (chaptered_ring (out.handed_out ++ out.ring.chapter ∷ []) new) ≡ whole_of out
   handed-out-whole =
       let entries : joined out.handed_out ++ out.ring.chapter.entries ≡ joined out.handed_out ++ c.entries = ap (λ (x : Chapter). joined out.handed_out ++ x.entries) (sym hands.next.out_is) in

@@ -1,4 +1,5 @@
--- The room for entries by a ring's chapter is the room by its whole history; and a call by the chapter, with that room, is a call over the whole history.
+-- The room for entries by a ring's chapter is the room over its whole history; and a call by the chapter, with that
+-- room, is a call over the whole history.
 use Rattle.std.proofs.Common.{◌≡◌, ℕ, ◌+◌, ◌<◌, ◌≤◌, ◌^◌, List, ◌++◌, length, sym, ap, ◌∙◌, subst, arith, length-append}
 use Rattle.rb_history.specs.declared.entries.Entry.{Entry}
 use Rattle.rb_history.specs.declared.tally.Tally.{Tally}
@@ -54,7 +55,7 @@ module _ (earlier : List Entry) (old new : ChapterRing) (is : ContinuesHistory e
       refusal-back : MayLogRefusal room cut w (whole_ring earlier old) → MayRefuse old.chapter w
       refusal-back may = (room-back 1 may.0, subst (λ (t : Tally). t.refused < 2 ^ 62) (sym (totals-are earlier old new w is low)) may.1)
 
-      -- ---- the calls that ask for room
+      -- ---- the calls that need room
 
       pub grants-in-room : (n p k : ℕ) → GrantsByChapter old new w n p k → WholeGrants (whole_ring earlier old) (whole_ring earlier new) w n p k × MayLogGrant room cut (whole_ring earlier old)
       grants-in-room n p k a = let whole = ((calls-alike earlier old new is).grants w n p k low).0 a in (whole.2, room-whole 3 whole.0)
@@ -77,7 +78,7 @@ module _ (earlier : List Entry) (old new : ChapterRing) (is : ContinuesHistory e
 -- ---- from what a role had seen to what it has seen
 
 module _ (role : Role) (before after : Book) (room cut : ℕ) (call : ChapterRing → ChapterRing → Type 0) (whole : Ring → Ring → Type 0) where
-  -- what the call has to be over the whole history, in the same chapter
+  -- what the call must be over the whole history, in the same chapter
   abbrev pub IsAlike : Type 0
   IsAlike = (earlier : List Entry) (old new : ChapterRing) → ContinuesHistory earlier old.chapter → old.chapter.opening.setup ≡ before.setup → old.chapter.room ≡ room → length earlier ≡ cut → call old new
       → IsSameChapter old new × whole (whole_ring earlier old) (whole_ring earlier new)
@@ -105,9 +106,9 @@ module _ (role : Role) (before after : Book) (room cut : ℕ) (call : ChapterRin
   pub call-in-room : IsAlike → LockedChapterCall role before after (InRoomAt room cut call) → LockedCall role before after (InRoom room cut whole)
   call-in-room alike t = record { point = whole_of t.point; left = whole_of t.left; goes_on = t.goes_on; was_ring = t.was_ring.is_ring; called = in-room alike t; is_ring = t.is_ring.is_ring; seen = t.seen }
 
--- the consumer's, which knows the chapters that were handed out
+-- the consumer's call, which knows the chapters that were handed out
 module _ (before after : Book) (room : ℕ) (handed_out : List Chapter) (call : ChapterRing → ChapterRing → Type 0) (whole : Ring → Ring → Type 0) where
-  -- it is one before whose chapter so many entries were handed out
+  -- it is a call before whose chapter this number of entries was handed out
   known-cut : LockedChapterCall Consumer before after (InKnownRoom room handed_out call) → LockedChapterCall Consumer before after (InRoomAt room (length (joined handed_out)) (λ old new. HasRoomForOwed old.chapter × call old new))
   known-cut t = record {
     point = t.point;
@@ -136,7 +137,7 @@ module _ (before after : Book) (room : ℕ) (handed_out : List Chapter) (call : 
     seen = t.seen;
   }
 
--- ---- of which less is said
+-- ---- weaker statements
 
 module _ (role : Role) (before after : Book) (room cut : ℕ) (first second : Ring → Ring → Type 0) where
   pub called-as : ((old new : Ring) → first old new → second old new) → LockedCall role before after (InRoom room cut first) → LockedCall role before after (InRoom room cut second)
@@ -156,7 +157,7 @@ module _ (role : Role) (before after : Book) (room cut : ℕ) (first second : Ri
     seen = t.seen;
   }
 
-  -- and nothing of the room
+  -- without the room
   pub without-room : ((old new : Ring) → first old new → second old new) → LockedCall role before after (InRoom room cut first) → LockedCall role before after second
   without-room entails t = record { point = t.point; left = t.left; goes_on = t.goes_on; was_ring = t.was_ring; called = entails t.point t.left t.called.called; is_ring = t.is_ring; seen = t.seen }
 

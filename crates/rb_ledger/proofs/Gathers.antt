@@ -28,7 +28,7 @@ use Rattle.rb_ledger.proofs.Seated.{ties-goes, taker-goes-on}
 use Rattle.rb_history.proofs.Serials.{serials-ordered, worker-in}
 use Rattle.rb_ledger.proofs.Sums.{eqb-sym, made-is}
 
--- ---- one seat after the other
+-- ---- one seat after another
 
 roles-snoc : (ss : List WorkerSeat) (s : WorkerSeat) → roles_of (ss ++ s ∷ []) ≡ roles_of ss ++ role_knowledge (Worker s.worker) s.seen s.sent ∷ []
 roles-snoc [] s = refl
@@ -83,7 +83,7 @@ some-seat P Q w (s ∷ ss) each has give = elim (or_cases (s.worker == w) (has_s
   | inr there ↦ let x = some-seat P Q w ss (All-tail P s ss each) there give in (suc x.0, x.1, omega (arith, x.2), x.3, x.4)
 ]
 
--- ---- what fits all roles
+-- ---- what agrees with all roles
 
 module _ (l : Ledger) where
   abbrev FitAll : List RoleKnowledge → Type 0
@@ -144,7 +144,7 @@ module _ (l : Ledger) where
         balanced = omega arith;
       }
 
--- what the state that the gathering pass took out tells
+-- what follows from the state that the gathering pass took out
 pub collected : (ss : List WorkerSeat) (c : ConsumerSeatValue) (own gathered after : PassView) (r : Ring) → own ≡ pass_view (role_knowledge Consumer c.seen c.got ∷ []) None → gathered ≡ pass_view (roles_of ss ++ own.knows) own.out → TakesState gathered r after
     → All HasOwnCounts ss → ConsumerTies c.consumed c.skipped c.position c.seen → HasAll c.seen.setup.workers ss → IsClosed r ss c
 collected ss c own gathered after r is_own knows took tied taker has =

@@ -1,4 +1,4 @@
--- Each step at the lock keeps the rule with hands.
+-- Each step at the lock preserves the rule with hands.
 use Rattle.std.specs.Prelude.{◌==◌, if◌then◌else◌}
 use Rattle.std.proofs.Common.{◌≡◌, ◌≢◌, ℕ, zero, suc, ◌+◌, ◌<◌, ◌≤◌, Bool, true, false, true≢false, cond, List, [], ◌∷◌, ◌++◌, set, map, length, Option, Some, None, inl, inr, sym, refl, ap, ◌∙◌, subst, ⊎_elim, append_assoc, append-nil, length-append, arith}
 use Rattle.std.proofs.lemmas.List.{map-set, map-append, length-map, get_or-replicate}
@@ -50,12 +50,12 @@ map-nil : (xs : List HandRing) → rings_of xs ≡ [] → xs ≡ []
 map-nil [] e = refl
 map-nil (x ∷ xs) e = absurd (cc)
 
--- the rule without hands, of views of which one was replaced
+-- the rule without hands, for views of which one was replaced
 set-chapters : (room : ℕ) (handed_out : List Chapter) (items : List ChapterRing) (views : List HandPassView) (pass : ℕ) (w : HandPassView) (x : ChapterPassView) → x ≡ without_hands w
     → old.KeepsRuleOf room handed_out items (set (map without_hands views) pass x) → old.KeepsRuleOf room handed_out items (map without_hands (set views pass w))
 set-chapters room handed_out items views pass w x is kept = subst (old.KeepsRuleOf room handed_out items) (ap (λ y. set (map without_hands views) pass y) is ∙ sym (map-set without_hands views pass w)) kept
 
--- the rule with hands, where the rule without them is about this ring
+-- the rule with hands, if the rule without them holds for this ring
 with-book : (room : ℕ) (handed_out : List Chapter) (book : HandBook) (items : List HandRing) (views : List HandPassView) → old.KeepsRuleOf room handed_out (rings_of items) (map without_hands views) → AllHaveBook book items
     → Everyone (ShowsHands room handed_out book) views → KeepsHandLockRule items views
 with-book room handed_out book items views kept has shows = record {
@@ -92,11 +92,11 @@ seen-within l k fit =
     let sums = length-append k.seen.history fit.goes_on.behind in
     omega arith
 
--- of these chapters, what was seen of a history of this length stays known to be handed out
+-- what was known of these chapters to be handed out, from at most this many entries, remains known
 abbrev StaysCut : List Chapter → List Chapter → ℕ → Type 0
 StaysCut old new long = (cut seen : ℕ) → seen ≤ long → IsCutOf old cut seen → IsCutOf new cut seen
 
--- roles that are not this one know their hands still
+-- roles other than this one still know their hands
 known-still : (role : Role) (room : ℕ) (old_out new_out : List Chapter) (book new : HandBook) (l : Ledger) → StaysCut old_out new_out (length l.ring.history) → LeavesOtherHands role book new → (ks : List HandKnowledge)
     → role_count role (whole_knowledge (chapters_known ks)) ≡ 0 → AllFit l (whole_knowledge (chapters_known ks)) → AllKnowHands room old_out book ks → AllKnowHands room new_out new ks
 known-still role room old_out new_out book new l stays leaves [] none fit a = tt
@@ -139,11 +139,11 @@ takes pass v none x items views kept at =
       },
     )
 
--- while one pass has the state out, the queue is empty
+-- while one pass holds the state, the queue is empty
 pub away : (pass : ℕ) (v : HandPassView) (c : ChapteredHandRing) → v.out ≡ Some c → Learns KeepsHandLockRule pass v (λ items. items ≡ [])
 away pass v c has items views kept at = map-nil items (old.away pass (without_hands v) c.chaptered (ap chapters_out has) (rings_of items) (map without_hands views) kept.chapters (get-map views pass v at))
 
--- ---- while one pass has the state out, no other has
+-- ---- while one pass holds the state, no other does
 
 abbrev whole_views : List HandPassView → List PassView
 whole_views views = map whole_view (map without_hands views)
@@ -170,12 +170,12 @@ none-out items views pass v c kept has at j u other e =
     let all = state-count (whole_views views) in
     none-counted u.out (omega arith)
 
--- ---- a pass of one role puts a state back
+-- ---- a pass with one role puts a state back
 
 same-out : (a b : ChapteredRing) → ◌≡◌ {A = Option ChapteredRing} (Some a) (Some b) → a ≡ b
 same-out a b e = cc
 
--- what was seen of the ring, as it was before a state was put back, stays known to be handed out
+-- what was known to be handed out before a state was put back remains known
 stays-cut : (out : ChapteredRing) (new : ChapterRing) → StaysCut out.handed_out (handed_out_after out new) (length (whole_of out).history)
 stays-cut out new = by_test (new.chapter.number == out.ring.chapter.number)
   where
@@ -192,7 +192,7 @@ module _ (n pass : ℕ) (me : HandKnowledge) (out : ChapteredHandRing) (new : Ha
   was : HasBook kept.book (hand_ring_of out)
   was = (kept.each_shows pass (hand_view (me ∷ []) (Some out)) at).where_out
 
-  -- the book, before
+  -- the earlier book
   leaves : LeavesOtherHands me.chapter.whole.role kept.book new.hands
   leaves w is = others w is ∙ ap (λ b. hands_of b w) was.same
 
@@ -205,7 +205,7 @@ module _ (n pass : ℕ) (me : HandKnowledge) (out : ChapteredHandRing) (new : Ha
       let once = kept.chapters.whole.each_role_once role in
       omega arith
 
-  -- what was handed out stays so
+  -- what was handed out remains so
   abbrev out-now : List Chapter
   out-now = handed_out_after out.chaptered new.ring
 
@@ -374,7 +374,7 @@ pub opens : (n pass : ℕ) (v : HandPassView) (r : HandRing) → v ≡ hand_view
 opens n pass v r is is_ring has_chapters nothing has free =
     subst (λ y. Pushes KeepsHandLockRule n pass y r (OpensHandState y r)) (sym is) (λ items views room kept at. put-first n pass r is_ring has_chapters nothing has free items views kept at room)
 
--- nobody has a record in a ring that was not opened
+-- in a ring that was not opened no hand holds a record
 no-out : (w h : ℕ) (o : OutRecord) → hand_at [] w h ≡ Some o → ⊥
 no-out w h o at = absurd (cc)
 
@@ -394,7 +394,7 @@ unopened-has = record {
       | inr more ↦ absurd (omega (arith, more.1))
     ]
 
--- before anything: one pass, which has the state that nobody fits
+-- initially there is one pass, which holds the unopened state
 pub begins : KeepsHandLockRule [] (hand_view [] (Some unopened_hands) ∷ [])
 begins =
     with-book 8 [] [] [] (hand_view [] (Some unopened_hands) ∷ []) old.begins-of tt

@@ -1,4 +1,4 @@
--- What was known to be handed out stays so, and what follows of it.
+-- What was known to be handed out remains so, and what follows from it.
 use Rattle.std.proofs.Common.{◌≡◌, ℕ, ◌+◌, ◌≤◌, List, [], ◌∷◌, ◌++◌, take, drop, length, inl, inr, sym, ap, ◌∙◌, subst, length-append, arith}
 use Rattle.std.proofs.lemmas.Bool.{cases_lt}
 use Rattle.std.proofs.lemmas.List.{take-append-le, take_all, take-take, take-append-drop}
@@ -6,7 +6,7 @@ use Rattle.std.proofs.lemmas.Grind.{flat_map-append}
 use Rattle.rb_chapter_ring.specs.Chapters.{Chapter, joined}
 use Rattle.rb_ledger.specs.HandedOut.{IsCutOf, HandedOutIsKnown, HandingOutMakesRoom}
 
--- what was handed out of a ring, by what was seen of it, stays so once another chapter was handed out
+-- what was known to be handed out remains so after another chapter was handed out
 pub cut-behind : (hs : List Chapter) (c : Chapter) (cut seen : ℕ) → seen ≤ length (joined (hs ++ c ∷ [])) → IsCutOf hs cut seen → IsCutOf (hs ++ c ∷ []) cut seen
 cut-behind hs c cut seen low is =
     let long : length (hs ++ c ∷ []) ≡ length hs + 1 = length-append hs (c ∷ []) in
@@ -22,7 +22,7 @@ cut-behind hs c cut seen low is =
       ];
     }
 
--- all that was handed out is what is known once the ring was seen
+-- everything that was handed out is known once the ring was seen
 pub cut-now-is : (hs : List Chapter) (seen : ℕ) → IsCutOf hs (length (joined hs)) seen
 cut-now-is hs seen = record {
   chapters = length hs;
@@ -31,7 +31,7 @@ cut-now-is hs seen = record {
   next_is_later = λ more. absurd (omega arith);
 }
 
--- it is no more than was
+-- it is at most what was handed out
 pub cut-within : (hs : List Chapter) (cut seen : ℕ) → IsCutOf hs cut seen → cut ≤ length (joined hs)
 cut-within hs cut seen is =
     let parts = ap length (sym (flat_map-append (λ (c : Chapter). c.entries) (take is.chapters hs) (drop is.chapters hs))) in
@@ -40,7 +40,7 @@ cut-within hs cut seen is =
     let cut_is = is.cut_is in
     omega arith
 
--- entries of a front of chapters are no more than those of all of them
+-- the first of several chapters have at most as many entries as all of them
 front-within : (n : ℕ) (hs : List Chapter) → length (joined (take n hs)) ≤ length (joined hs)
 front-within n hs =
     let parts = ap length (flat_map-append (λ (c : Chapter). c.entries) (take n hs) (drop n hs)) in

@@ -21,20 +21,20 @@ use Rattle.rb_ledger.proofs.NoStranger.{own-busy-is-seen}
 -- ---- one call under the lock
 
 module _ (w : ℕ) (before after : Book) (Call : Ring → Ring → Type 0) (call : LockedCall (Worker w) before after Call) where
-  -- what is busy by what the seat has seen is busy where the call is made
+  -- what is busy in the history that the seat has seen is busy at the point of the call
   pub busy-there : (v p k n : ℕ) → v ≡ w → IsBusy before.history p v k n → IsBusy call.point.history p v k n
   busy-there v p k n own busy =
       subst (λ x. IsBusy call.point.history p x k n) (sym own)
       ((own-busy-is-seen w before (book_of call.point) call.goes_on p k n).0 (subst (λ x. IsBusy before.history p x k n) own busy))
 
-  -- and what is busy once it was made is so by what the seat has seen then
+  -- what is busy after the call is busy in the history that the seat has then seen
   pub seen-then : (v p k n : ℕ) → IsBusy call.left.history p v k n → IsBusy after.history p v k n
   seen-then v p k n = subst (λ (s : Book). IsBusy s.history p v k n) (sym call.seen)
 
   pub left-then : (v p k n : ℕ) → IsBusy after.history p v k n → IsBusy call.left.history p v k n
   left-then v p k n = subst (λ (s : Book). IsBusy s.history p v k n) call.seen
 
-  -- the call added an entry, or none
+  -- the call added one entry
   pub after-entry : (e : Entry) → Logs call.point call.left (e ∷ []) → (v p k n : ℕ) → v ≡ w → is_submit p e ≡ false → is_discard p e ≡ false → IsBusy before.history p v k n → IsBusy after.history p v k n
   after-entry e logged v p k n own s d busy =
       seen-then v p k n (subst (λ h. IsBusy h p v k n) (sym logged.history_is) (busy-after call.point.history e p v k n s d (busy-there v p k n own busy)))
@@ -48,7 +48,7 @@ module _ (w : ℕ) (before after : Book) (Call : Ring → Ring → Type 0) (call
   pub left-legal : (es : List Entry) → Logs call.point call.left es → IsLegal call.point.setup (call.point.history ++ es)
   left-legal es logged = subst (λ s. IsLegal s (call.point.history ++ es)) logged.setup_same (subst (IsLegal call.left.setup) logged.history_is call.is_ring.legal)
 
-  -- a record that was granted and submitted at once is another one
+  -- a record that was granted and submitted in one call is another one
   pub after-output : (v j l p : ℕ) → Logs call.point call.left (Res v j l p ∷ Sub p ∷ []) → (u q k m : ℕ) → u ≡ w → IsBusy before.history q u k m → IsBusy after.history q u k m
   after-output v j l p logged u q k m own busy =
       let h = call.point.history in
@@ -61,7 +61,7 @@ module _ (w : ℕ) (before after : Book) (Call : Ring → Ring → Type 0) (call
       let still = busy-after mid (Sub p) q u k m (ne_eqb p q (λ e. apart (sym e))) refl (busy-after h (Res v j l p) q u k m refl refl was) in
       seen-then u q k m (subst (λ x. IsBusy x q u k m) (same ∙ sym logged.history_is) still)
 
--- ---- by the call
+-- ---- by call
 
 module _ (w : ℕ) (before after : Book) where
   leaves-by-entry : (Call : Ring → Ring → Type 0) (e : Entry) (call : SeatCall w before after Call) → Logs call.point call.left (e ∷ [])
@@ -77,7 +77,7 @@ module _ (w : ℕ) (before after : Book) where
     busy = after-none w before after Call call same r.worker r.pos r.serial (length r.bytes) held.worker_is held.busy;
   }
 
-  -- what is held is busy where the call is made
+  -- what is held is busy at the point of the call
   held-there : (Call : Ring → Ring → Type 0) (call : SeatCall w before after Call) (r : Granted) → IsHeld w before r → HoldsReservation call.point r
   held-there Call call r held = busy-there w before after Call call r.worker r.pos r.serial (length r.bytes) held.worker_is held.busy
 

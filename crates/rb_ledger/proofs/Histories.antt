@@ -1,4 +1,4 @@
--- What goes on from what was seen.
+-- Histories that continue what was seen.
 use Rattle.std.proofs.Common.{◌≡◌, ℕ, ◌==◌, true, false, List, [], ◌∷◌, ◌++◌, refl, sym, ap, ◌∙◌, subst, append_assoc, append-nil}
 use Rattle.std.proofs.lemmas.Bool.{true≢false, eqb-true, eq-eqb, false_from_ne_true}
 use Rattle.rb_history.specs.declared.entries.Entry.{Entry}
@@ -12,7 +12,7 @@ use Rattle.rb_ledger.specs.Roles.Role.{Consumer, Worker}
 use Rattle.rb_ledger.specs.RoleKnowledge.{same_role}
 use Rattle.rb_history.proofs.RecordWorkers.{record-unique}
 
--- all of the entries that stand behind `before` are the role's own
+-- all of the entries that follow `before` are the role's own
 abbrev pub AllOwn : Role → List Entry → List Entry → Type 0
 AllOwn role before [] = Unit {0}
 AllOwn role before (e ∷ es) = (is_own role before e ≡ true) × AllOwn role (before ++ e ∷ []) es
@@ -25,7 +25,7 @@ other-worker : (a b v : ℕ) → (a == b) ≡ false → (v == a) ≡ true → (v
 other-worker a b v apart is = ap (λ x. x == b) (eqb-true v a is) ∙ apart
 
 module _ (r : Setup) where
-  -- what is one role's own is not another's
+  -- an entry that is one role's own is not another's
   own-apart : (mine role : Role) (h : List Entry) (e : Entry) → IsLegal r h → same_role mine role ≡ false → is_own mine h e ≡ true → is_own role h e ≡ false
   own-apart Consumer Consumer h e l apart is = absurd (true≢false apart)
   own-apart Consumer (Worker b) h (Take p) l apart is = refl
@@ -50,11 +50,11 @@ module _ (r : Setup) where
       let l' : IsLegal r ((h ++ e ∷ []) ++ es) = subst (IsLegal r) (sym (append_assoc h (e ∷ []) es)) l in
       (own-apart mine role h e (legal-front r h (e ∷ es) l) apart own.0, others mine role (h ++ e ∷ []) es l' apart own.1)
 
--- a role has seen all
+-- a role has seen everything
 pub all-seen : (role : Role) (b : Book) → ExtendsSeen role b b
 all-seen role b = record { setup_same = refl; behind = []; history_is = sym (append-nil b.history); none_own = tt }
 
--- a book that goes on for a role goes on by entries that are not its own
+-- a book that continues for a role continues with entries that are not its own
 pub goes-further : (role : Role) (seen b new : Book) (added : List Entry) → ExtendsSeen role seen b → new.setup ≡ b.setup → new.history ≡ b.history ++ added → NoneOwn role b.history added → ExtendsSeen role seen new
 goes-further role seen b new added goes setup history none = record {
   setup_same = setup ∙ goes.setup_same;

@@ -1,4 +1,4 @@
--- Each step at the lock keeps its rule.
+-- Each step at the lock preserves its rule.
 use Rattle.std.proofs.Common.{◌≡◌, ℕ, zero, suc, ◌+◌, ◌≤◌, Bool, true, false, cond, List, [], ◌∷◌, ◌++◌, set, Some, None, sym, refl, ap, ◌∙◌, subst, ⊎_elim, append_assoc, arith}
 use mathlib.Core.Option.{some, some-injective, some-ne-none}
 use lib.ListN.{get_elem?}
@@ -51,7 +51,7 @@ takes pass v none x items views kept at =
       (refl, (kept.ledger, sym alone.1, kept.each_saw_a_beginning pass v at), λ role. let t = total_one (λ u. role_count role u.knows) views pass v at in let once = kept.each_role_once role in omega arith),
     )
 
--- a pass of one role puts a state back, where the one leads to the other by a step of that role
+-- a pass with one role puts a state back, if the change of the state is a step of that role
 pub puts : (n pass : ℕ) (me after : RoleKnowledge) (r new : Ring) → after.role ≡ me.role → RoleStep me r new after
     → Pushes KeepsLockRule n pass (pass_view (me ∷ []) (Some r)) new (λ w. w ≡ pass_view (after ∷ []) None)
 puts n pass me after r new same step items views room kept at =
@@ -79,14 +79,14 @@ puts n pass me after r new same step items views room kept at =
       refl,
     )
 
--- while a pass has the state out, the queue is empty
+-- while a pass holds the state, the queue is empty
 pub away : (pass : ℕ) (v : PassView) (r : Ring) → v.out ≡ Some r → Learns KeepsLockRule pass v (λ items. items ≡ [])
 away pass v r has items views kept at =
     let o = outs_take views pass v (pass_view [] None) r at has refl in
     let alone = single (items ++ o.0) o.1 r kept.ledger.ring (append_assoc items o.0 (r ∷ o.1) ∙ ap (λ os. items ++ os) (sym o.2) ∙ kept.one_state) in
     (both_nil items o.0 alone.0).0
 
--- a pass's first role is cut off
+-- a pass's first role is split off
 pub forks : (pass : ℕ) (v : PassView) → Forks KeepsLockRule pass v (pass_view (other_roles v.knows) v.out) (pass_view (first_role v.knows) None)
 forks pass v items views kept at =
     let left = pass_view (other_roles v.knows) v.out in
@@ -105,7 +105,7 @@ forks pass v items views kept at =
       each_saw_a_beginning = λ j u e. ⊎_elim (λ h. fits j u h) (λ (same : right ≡ u). subst (λ (y : PassView). AllFit kept.ledger y.knows) same (fit_first kept.ledger v.knows (kept.each_saw_a_beginning pass v at))) (at_snoc vs right u j e);
     }
 
--- a pass takes in the roles of another that has no state out
+-- a pass takes in the roles of another that holds no state
 pub merges : (pass : ℕ) (v : PassView) (other : ℕ) (u : PassView) → u.out ≡ None → Merges KeepsLockRule pass v other u (pass_view (u.knows ++ v.knows) v.out) (pass_view [] None)
 merges pass v other u none items views kept at ne at' =
     let both = pass_view (u.knows ++ v.knows) v.out in
@@ -130,7 +130,7 @@ nobody : (s : Ledger) → ((k : RoleKnowledge) → FitsLedger s k → ⊥) → (
 nobody s nobody_fits [] fit = refl
 nobody s nobody_fits (k ∷ ks) fit = absurd (nobody_fits k fit.0)
 
--- the first state is put in by the pass that has the one which nobody fits, and its roles come to be
+-- the pass that holds the unopened state puts the first state in, and gets its roles
 pub opens : (n pass : ℕ) (dummy r : Ring) (t : Ledger) (ks : List RoleKnowledge) → ((s : Ledger) → s.ring ≡ dummy → (k : RoleKnowledge) → FitsLedger s k → ⊥) → t.ring ≡ r → AllFit t ks → ((role : Role) → role_count role ks ≤ 1)
     → Pushes KeepsLockRule n pass (pass_view [] (Some dummy)) r (λ w. w ≡ pass_view ks None)
 opens n pass dummy r t ks nobody_fits is fit ones items views room kept at =
@@ -154,7 +154,7 @@ opens n pass dummy r t ks nobody_fits is fit ones items views room kept at =
       refl,
     )
 
--- before anything: one pass, which has the state that nobody fits
+-- initially there is one pass, which holds the unopened state
 pub begins : (s : Ledger) → KeepsLockRule [] (pass_view [] (Some s.ring) ∷ [])
 begins s = record {
   ledger = s;

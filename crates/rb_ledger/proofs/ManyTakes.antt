@@ -1,4 +1,4 @@
--- Many takes under one holding of the lock, as their one-take steps one after the other.
+-- Many takes under one acquisition of the lock, as a sequence of single takes.
 use Rattle.std.proofs.Common.{◌≡◌, ℕ, ◌+◌, Bool, true, false, List, [], ◌∷◌, ◌++◌, length, take, drop, ◌-◌, length-drop, refl, sym, ap, ◌∙◌, subst, append_assoc, arith}
 use Rattle.std.specs.FinMap.{get, insert}
 use Rattle.std.proofs.lemmas.Bool.{true≢false}
@@ -84,7 +84,7 @@ discarded-status true true t e = refl
 discarded-status false true t e = refl
 discarded-status s false t e = absurd (true≢false (sym e))
 
--- the bytes that the takes hand out are those that the ring had at first
+-- the bytes that the takes return are those that the ring had initially
 module _ (first : Ring) (stands : StandsFor first) where
   got-each : (old new : Ring) (ts : List Taken) (m : Contents) → IsWithin old.contents first.contents → ((q : ℕ) → is_discarded_at old.history q ≡ true → is_discarded_at first.history q ≡ true) → TakesEach old ts new → got_with first.contents (takes_of ts) m ≡ got_by_all m ts
   got-each old new [] m within gone each = refl
@@ -127,7 +127,7 @@ after-many m old new n ts is_ring call =
     ap (λ es. bytes_after Consumer old new es m) (front_rest new.history old.history (takes_of ts) (logs-each old new ts call.each).history_is)
     ∙ got-each old is_ring.stands old new ts m (λ q c is. is) (λ q is. is) call.each
 
--- ---- the consumer's numbers
+-- ---- the consumer's counts
 
 module _ (old new : Ring) (es : List Entry) (logs : Logs old new es) where
   legal-before : IsLegal new.setup new.history → IsLegal old.setup old.history
@@ -169,10 +169,10 @@ module _ (c s p : ℕ) (b a : Book) (n : ℕ) (ts : List Taken) (turn : LockedCa
   pub many-places : AreTakenFrom p ts
   many-places = places-each c s p turn.point turn.left ts turn.is_ring.legal point-ties turn.called.each
 
-  -- the ring stays the same ring
+  -- it remains the same ring
   pub many-setup : a.setup ≡ b.setup
   many-setup = ap (λ (x : Book). x.setup) turn.seen ∙ (logs-each turn.point turn.left ts turn.called.each).setup_same ∙ turn.goes_on.setup_same
 
--- what was pushed, as the slice behind what was there
+-- what was pushed, as the slice after the earlier elements
 pub slice-pushed : (before after whole : List Taken) (k : ℕ) → whole ≡ after → k ≡ length before → take (length whole - k) (drop k whole) ≡ pushed before after
 slice-pushed before after whole k same is = take_all (length whole - k) (drop k whole) (omega (arith, length-drop k whole)) ∙ ap (drop k) same ∙ ap (λ n. drop n after) is

@@ -71,7 +71,7 @@ not-res : (p w k n q v j m : ℕ) → (v == w) ≡ false → Res w k n p ≡ Res
 not-res p w k n q v j m apart e = true≢false (sym (eq-eqb v w (sym (ap entry-worker e))) ∙ apart)
 
 module _ (w : ℕ) where
-  -- what is settled there is not the worker's
+  -- a record that is committed there is not the worker's
   mine : (h : List Entry) (p k n q : ℕ) → is_record_of w h q ≡ false → q ≡ p → Contains h (Res w k n p) → ⊥
   mine h p k n q apart same there = true≢false (sym (is-record h w k n p there) ∙ ap (is_record_of w h) (sym same) ∙ apart)
 

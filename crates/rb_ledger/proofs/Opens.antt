@@ -64,12 +64,12 @@ open-step n pass v r e is_ring none =
     let P : PassView → Type 0 = λ y. Pushes KeepsLockRule n pass y r (OpensState y r) in
     (subst P (sym e) one, away pass v unopened_ring (ap (λ (y : PassView). y.out) e))
 
--- ---- the seats that are cut off
+-- ---- the seats that are split off
 
 seats-step : (tag : ℕ) (ring : TableId) (room : ℕ) (b : Book) (i n : ℕ) → i < n → fresh_seats tag ring room b i (n - i) ≡ fresh_seat tag ring room i b ∷ fresh_seats tag ring room b (i + 1) (n - (i + 1))
 seats-step tag ring room b i n h = let e : n - i ≡ suc (n - (i + 1)) = omega arith in ap (fresh_seats tag ring room b i) e
 
--- one seat more
+-- one more seat
 pub seats-more : (tag : ℕ) (ring ring' : TableId) (room : ℕ) (b : Book) (i n : ℕ) (items more : List WorkerSeat) (s : WorkerSeat) (all : List WorkerSeat) → i < n → ring' ≡ ring → s ≡ fresh_seat tag ring room i b → more ≡ items ++ s ∷ []
     → items ++ fresh_seats tag ring room b i (n - i) ≡ all → more ++ fresh_seats tag ring' room b (i + 1) (n - (i + 1)) ≡ all
 seats-more tag ring ring' room b i n items more s all h same is e before =

@@ -25,7 +25,7 @@ use Rattle.rb_ledger.specs.LockedCalls.{Reserves, OutputsAt, TakesAt, sent_by_ou
 use Rattle.rb_ledger.specs.RecordEnds.{EndsAt, sent_by_end}
 use Rattle.rb_ledger.proofs.Calls.{no-bytes, sent-there, skipped-none}
 
--- what one role's pass knows once it has the state out
+-- what a pass with one role knows while it holds the state
 pub record Held (role : Role) (v : PassView) (r : Ring) (w : PassView) : Type 0 where
   pub now : w ≡ pass_view (role_knowledge role (seen_in v) (pass_bytes v) ∷ []) (Some r)
   pub goes_on : ExtendsSeen role (seen_in v) (book_of r)

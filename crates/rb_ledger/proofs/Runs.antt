@@ -32,7 +32,7 @@ fresh-stands size start workers = record {
   sized = λ p bytes is. let none : None ≡ Some bytes = sym (get-empty nat_cmp p) ∙ is in absurd (cc);
 }
 
--- a call keeps the ring's setup
+-- a call preserves the ring's setup
 step-setup : (old new : Ring) (e : Entry) → IsStepOf old new e → new.setup ≡ old.setup
 step-setup old new (Res w k n p) s = s.1.logged.setup_same
 step-setup old new (Full w n) s = s.1.logged.setup_same

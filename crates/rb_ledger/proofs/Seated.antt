@@ -1,4 +1,4 @@
--- A seat's numbers after each call.
+-- A seat's counts after each call.
 use Rattle.std.proofs.Common.{◌≡◌, ℕ, ◌+◌, ◌<◌, true, false, List, [], ◌∷◌, ◌++◌, length, sym, ap, ◌∙◌, subst, append_assoc, add-zero, Result, Ok, Err, IfOk}
 use Rattle.std.specs.List.{Contains}
 use Rattle.std.proofs.lemmas.Bool.{true≢false, false_from_ne_true}
@@ -34,11 +34,11 @@ use Rattle.rb_history.proofs.WorkerCounts.{tally-res, tally-full, tally-sub, tal
 use Rattle.rb_ledger.proofs.Tallies.{tally-goes, taker-goes}
 use Rattle.rb_history.proofs.TakenRecords.{position-taken, never-both, waiting-submitted, discarded-is}
 
--- a ring's book is one of a ring that was opened
+-- a ring's book is that of a ring that was opened
 pub ring-book : (r : Ring) → IsRing r → IsBook (book_of r)
 ring-book r i = record { size = i.bounded.size; start = i.bounded.start; workers = i.bounded.workers; legal = i.legal }
 
--- where others go on, a worker's numbers tie to what comes of it
+-- if others continue the history, a worker's counts agree with the continued one
 pub ties-goes : (w : ℕ) (t : Tally) (b p : Book) → ExtendsSeen (Worker w) b p → IsLegal p.setup p.history → Ties w t b → Ties w t p
 ties-goes w t b p goes legal ties = record {
   in_ring = subst (λ (x : Setup). w < x.workers) (sym goes.setup_same) ties.in_ring;
@@ -48,7 +48,7 @@ ties-goes w t b p goes legal ties = record {
 }
 
 module _ (w : ℕ) (t : Tally) (old new : Ring) (is_ring : IsRing new) (ties : Ties w t (book_of old)) where
-  -- new entries, of which the numbers are known
+  -- new entries whose counts are known
   ties-by : (added : List Entry) (u : Tally) → new.setup ≡ old.setup → new.history ≡ old.history ++ added → (IsLegal old.setup (old.history ++ added) → tally_of w (old.history ++ added) ≡ u) → Ties w u (book_of new)
   ties-by added u setup history numbers = record {
     in_ring = subst (λ (x : Setup). w < x.workers) (sym setup) ties.in_ring;
@@ -112,7 +112,7 @@ module _ (w : ℕ) (t : Tally) (b a : Book) where
   pub query-ties : (what n : ℕ) → LockedCall (Worker w) b a (Queries what n) → Ties w t b → Ties w t a
   query-ties what n turn ties = at-point (Queries what n) turn ties t (λ old new i k c. ties-same w t old new i k c.0)
 
-  -- the serial of a new reservation is how many the seat had made
+  -- the serial of a new reservation is the number that the seat had made
   serial-at : (n : ℕ) (r : Result Granted (NoGrant × List ℕ)) (old new : Ring) → Ties w t (book_of old) → Reserves w n r old new → IfOk r (λ g. g.serial ≡ t.made)
   serial-at n (Ok g) old new ties c = c.0.serial ∙ ap (λ (u : Tally). u.made) (sym ties.counted)
   serial-at n (Err e) old new ties c = tt
@@ -185,6 +185,6 @@ module _ (c s p : ℕ) (b a : Book) (t : Taken) (turn : LockedCall Consumer b a 
   taken-setup old new BusyFront call = ap (λ (r : Ring). r.setup) call.same
   taken-setup old new Empty call = ap (λ (r : Ring). r.setup) call.same
 
-  -- the ring stays the same ring
+  -- it remains the same ring
   pub take-setup : a.setup ≡ b.setup
   take-setup = ap (λ (x : Book). x.setup) turn.seen ∙ taken-setup turn.point turn.left t turn.called.0 ∙ turn.goes_on.setup_same

@@ -1,4 +1,4 @@
--- Each call of a role keeps what every role has to fit.
+-- Each call of a role preserves the agreement of every role with the ledger.
 use Rattle.std.proofs.Common.{◌≡◌, ◌≢◌, ℕ, ◌<◌, true, false, cond, List, ◌++◌, ◌⊎◌, Some, None, inl, inr, length, drop, refl, sym, ap, ◌∙◌, subst}
 use Rattle.std.specs.Cmp.{nat_cmp_total}
 use Rattle.std.specs.FinMap.{get, insert, remove, get-insert, get-remove}
@@ -30,7 +30,7 @@ get-same m p b = get-insert nat_cmp_total m p b p ∙ ap (λ t. cond t (Some b) 
 pub get-other : (m : Contents) (p q : ℕ) (b : List ℕ) → q ≢ p → get (insert m p b) q ≡ get m q
 get-other m p q b apart = get-insert nat_cmp_total m p b q ∙ ap (λ t. cond t (Some b) (get m q)) (hit-no q p apart)
 
--- what stands in a map with one more stands there newly, or stood there
+-- an element of a map after an insertion is the new one, or was in it before
 pub get-cases : (m : Contents) (p q : ℕ) (b c : List ℕ) → get (insert m p b) q ≡ Some c → ((q ≡ p) × (b ≡ c)) ⊎ ((q ≢ p) × (get m q ≡ Some c))
 get-cases m p q b c is = elim (cases_eq q p) [
   | inl same ↦
@@ -65,7 +65,7 @@ carried-bytes : (s t : Ledger) (mine role : Role) (added : List Entry) (bytes : 
 carried-bytes s t mine Consumer added bytes c apart fit = λ p b is. c.within p b (fit p b is)
 carried-bytes s t mine (Worker v) added bytes c apart fit = c.of_others v bytes apart fit
 
--- the other roles still fit
+-- the other roles still agree
 carried : (s t : Ledger) (mine : Role) (added : List Entry) → Carries s t mine added → (k : RoleKnowledge) → same_role mine k.role ≡ false → FitsLedger s k → FitsLedger t k
 carried s t mine added c k apart fit =
     let legal : IsLegal s.ring.setup (s.ring.history ++ added) = subst (IsLegal s.ring.setup) c.history_is (subst (λ x. IsLegal x t.ring.history) c.setup_same c.sound.is_ring.legal) in
@@ -76,7 +76,7 @@ carried s t mine added c k apart fit =
       bytes_fit = carried-bytes s t mine k.role added k.bytes c apart fit.bytes_fit;
     }
 
--- what the call of `me` left, where the ledger was s
+-- what the call of `me` left, if the ledger was s
 abbrev pub Done : Ledger → Ring → RoleKnowledge → Type 0
 Done s new me =
     (t : Ledger) × (t.ring ≡ new) × FitsLedger t (knowledge_after s.ring new me) × ((k : RoleKnowledge) → same_role me.role k.role ≡ false → FitsLedger s k → FitsLedger t k)
@@ -96,7 +96,7 @@ done s t me bytes added c fit is bytes_fit =
       carried s t me.role added c,
     )
 
--- a step from what holds between the ring that is out and the one that is put back
+-- a step, from what holds between the ring that is out and the one that is put back
 pub step-from : (me : RoleKnowledge) (r new : Ring) (Call : Ring → Type 0) → Call r → ((s : Ledger) → Call s.ring → FitsLedger s me → Done s new me) → RoleStep me r new (knowledge_after r new me)
 step-from me r new Call call does s e fit =
     let d = does s (subst Call (sym e) call) fit in

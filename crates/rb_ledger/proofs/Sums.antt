@@ -1,4 +1,4 @@
--- Sums over all seats are counts of the history, where each worker has one seat.
+-- Sums over all seats are counts of the history, if each worker has one seat.
 use Rattle.std.proofs.Common.{◌≡◌, ℕ, ◌+◌, ◌<◌, ◌≤◌, ◌==◌, ◌||◌, Bool, true, false, List, [], ◌∷◌, refl, sym, ap, ◌∙◌, arith}
 use Rattle.std.specs.List.{All, count_by, sum_by, Contains}
 use Rattle.std.proofs.lemmas.List.Elements.{Contains-append_right, All-nil, All-cons, All-head, All-tail, All-weaker}
@@ -33,7 +33,8 @@ sum-none (s ∷ ss) = omega (arith, sum_by-cons (λ (x : WorkerSeat). 0) s ss, s
 sum-of : (w : ℕ) (ss : List WorkerSeat) → sum_by (λ s. bit (w == s.worker)) ss ≡ seats_of w ss
 sum-of w ss = sum_by-agree (λ s. bit (s.worker == w)) (λ s. bit (w == s.worker)) (λ s. ap bit (eqb-sym w s.worker)) ss
 
--- where each entry that one test passes is one seat's by another, the seats' counts sum to the one test's
+-- if each entry that one test passes belongs to exactly one seat by another test, the seats' counts sum up to the count
+-- of the first
 count-once : (t : ℕ → Entry → Bool) (u : Entry → Bool) (ss : List WorkerSeat) (es : List Entry) → ((x : Entry) → Contains es x → sum_by (λ s. bit (t s.worker x)) ss ≡ bit (u x)) → sum_by (λ s. count_by (t s.worker) es) ss ≡ count_by u es
 count-once t u ss [] each = sum-none ss
 count-once t u ss (e ∷ es) each =
@@ -42,7 +43,7 @@ count-once t u ss (e ∷ es) each =
     let add = sum_by-add (λ s. bit (t s.worker e)) (λ s. count_by (t s.worker) es) (λ s. count_by (t s.worker) (e ∷ es)) (λ s. sum_by-cons (λ y. bit (t s.worker y)) e es) ss in
     omega (arith, sum_by-cons (λ y. bit (u y)) e es)
 
--- a sum of the seats' numbers is one of their workers' numbers in the history
+-- a sum of the seats' counts is one of their workers' counts in the history
 tally-sum : (f : Tally → ℕ) (b : Book) (ss : List WorkerSeat) → All (Accounts b) ss → sum_by (λ s. f s.tally) ss ≡ sum_by (λ s. f (tally_of s.worker b.history)) ss
 tally-sum f b [] ties = refl
 tally-sum f b (s ∷ ss) ties =
@@ -57,7 +58,7 @@ is_submitting _ = false
 anywhere : ℕ → Bool
 anywhere p = true
 
--- an entry that submits or discards a record is one or the other
+-- an entry that submits or discards a record does one or the other
 one-way : (e : Entry) → bit (settles_where anywhere e) ≡ bit (is_submitting e) + bit (is_discard_entry e)
 unfolding anywhere
 one-way (Res w k n p) = refl
@@ -89,7 +90,7 @@ made-settled r h l =
     omega (arith, ways, rest, even r anywhere h l)
 
 module _ (b : Book) (l : IsLegal b.setup b.history) (ss : List WorkerSeat) (once : (w : ℕ) → w < b.setup.workers → seats_of w ss ≡ 1) where
-  -- a record that was granted is one seat's
+  -- a record that was granted belongs to one seat
   record-once : (p : ℕ) → is_granted_at b.history p ≡ true → sum_by (λ s. bit (is_record_of s.worker b.history p)) ss ≡ 1
   record-once p g =
       let st = grant-stands b.history p g in
@@ -137,7 +138,7 @@ module _ (b : Book) (l : IsLegal b.setup b.history) (ss : List WorkerSeat) (once
         settled-sub s a = let most = settled-most b.setup b.history l s.worker in let e = a.ties.counted in
             omega (arith, most, ap (λ (t : Tally). t.made) e, ap (λ (t : Tally). t.submitted) e, ap (λ (t : Tally). t.discarded) e)
 
--- ---- where each seat has settled all of its records, none is busy, and the other way round
+-- ---- none is busy if and only if each seat has committed all of its records
 
 sums-within : (ss : List WorkerSeat) → All SettlesWithin ss → all_submitted ss + all_discarded ss ≤ all_made ss
 sums-within [] each = omega arith

@@ -1,4 +1,4 @@
--- What a part without own entries leaves of a seat's numbers.
+-- What entries that are not its own leave of a seat's counts.
 use Rattle.std.proofs.Common.{◌≡◌, ℕ, ◌+◌, ◌≤◌, Bool, false, List, [], ◌∷◌, ◌++◌, refl, sym, ap, ◌∙◌, subst, append_assoc, append-nil, add-zero, arith}
 use Rattle.std.proofs.lemmas.Bool.{true≢false, false_from_ne_true}
 use Rattle.rb_history.specs.declared.entries.Entry.{Entry}
@@ -35,7 +35,7 @@ module _ (r : Setup) where
   others-entry w h (Dis p) t off = add-none t _ _ _ _ refl refl refl (ap bit off)
   others-entry w h (Take p) t off = add-none t _ _ _ _ refl refl refl refl
 
-  -- a worker's numbers stand where others go on
+  -- a worker's counts do not change if others continue the history
   pub tally-goes : (w : ℕ) (h es : List Entry) → IsLegal r (h ++ es) → NoneOwn (Worker w) h es → tally_of w (h ++ es) ≡ tally_of w h
   tally-goes w h [] l none = ap (tally_of w) (append-nil h)
   tally-goes w h (e ∷ es) l none =
@@ -43,7 +43,7 @@ module _ (r : Setup) where
       let l' : IsLegal r ((h ++ e ∷ []) ++ es) = subst (IsLegal r) (sym cut) l in
       ap (tally_of w) (sym cut) ∙ tally-goes w (h ++ e ∷ []) es l' none.1 ∙ tally-next r w h e (legal-front r (h ++ e ∷ []) es l') ∙ others-entry w h e (tally_of w h) none.0
 
-  -- no take: the consumer's numbers stand
+  -- without a take, the consumer's counts do not change
   pub record TakerSame (h k : List Entry) : Type 0 where
     pub events_same : events_of k ≡ events_of h
     pub skips_same : skips_of k ≡ skips_of h

@@ -62,7 +62,7 @@ outs_put [] pass v w at none = absurd (some-ne-none v (sym at))
 outs_put (x ∷ xs) zero v w at none = ap (λ os. state_list w.out ++ os) (both_nil (state_list x.out) (states_out xs) none).1 ∙ append-nil (state_list w.out)
 outs_put (x ∷ xs) (suc n) v w at none = let b = both_nil (state_list x.out) (states_out xs) none in ap (λ os. os ++ states_out (set xs n w)) b.0 ∙ outs_put xs n v w at b.1
 
--- one pass has r out, and others what is before and behind it
+-- one pass holds r, and others hold the states before and after it
 pub outs_take : (views : List PassView) (pass : ℕ) (v w : PassView) (r : Ring) → get_elem? views pass ≡ some v → v.out ≡ Some r → w.out ≡ None
     → (a : List Ring) × (b : List Ring) × (states_out views ≡ a ++ r ∷ b) × (states_out (set views pass w) ≡ a ++ b)
 outs_take [] pass v w r at has none = absurd (some-ne-none v (sym at))

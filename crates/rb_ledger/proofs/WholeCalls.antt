@@ -73,7 +73,7 @@ module _ (role : Role) (before after : Book) (call : ChapterRing → ChapterRing
     seen = t.seen;
   }
 
-  -- a worker of the ring that was seen is one of the ring's
+  -- a worker of the ring that was seen is one of the ring's workers
   pub with-worker : (w : ℕ) → w < before.setup.workers → LockedChapterCall role before after (InOneChapter call) → LockedChapterCall role before after (InOneChapter (λ old new. (w < old.chapter.opening.setup.workers) × call old new))
   with-worker w low t = record {
     point = t.point;

@@ -1,4 +1,4 @@
--- A shared ring over chapters that was closed, and its chapters bound to one history (own).
+-- A shared ring that was closed, and its chapters, bound to one history (own).
 use Rattle.std.specs.Prelude.{◌≡◌, ℕ, ◌+◌, List, [], ◌∷◌, ◌++◌, None}
 use Rattle.std.specs.List.{All}
 use Rattle.rb_history.specs.declared.entries.Entry.{Entry}
@@ -21,44 +21,44 @@ use Rattle.rb_ledger.specs.ChapterSeats.{ChapterConsumerSeat, whole_consumer}
 
 -- ---- chapters of a ring
 
--- numbered from n upward
+-- numbered consecutively from n
 abbrev pub AreNumberedFrom : ℕ → List Chapter → Type 0
 AreNumberedFrom n [] = Unit {0}
 AreNumberedFrom n (c ∷ cs) = (c.number ≡ n) × AreNumberedFrom (n + 1) cs
 
--- each opens with what all entries before it stand for, where `earlier` are those before the first
+-- the opening of each is the summary of all entries before it, where `earlier` are those before the first
 abbrev pub EachGoesOn : Setup → List Entry → List Chapter → Type 0
 EachGoesOn setup earlier [] = Unit {0}
 EachGoesOn setup earlier (c ∷ cs) = (c.opening ≡ standing_of setup earlier) × EachGoesOn setup (earlier ++ c.entries) cs
 
--- the chapters and the last one may be bound: they are numbered 0 upward, and go on from the empty history
+-- the chapters and the last one may be bound: they are numbered from 0, and continue the empty history
 pub record MayBind (chapters : List Chapter) (last : Chapter) : Type 0 where
   pub numbered : AreNumberedFrom 0 (chapters ++ last ∷ [])
   pub opened : EachGoesOn last.opening.setup [] (chapters ++ last ∷ [])
 
 -- ---- closed
 
--- a ring that was closed: which shared ring it was, and the ring as it ended, with its last chapter
+-- a ring that was closed: which shared ring it was, and the ring at its end, with its last chapter
 pub record ClosedChapterRing : Type 0 where
   pub shared : Shared
   pub at_end : ChapterRing
 
--- the seats' and the consumer's numbers are those of the history: so each worker's reservations are there once each, in its own order, and
--- reservations equal records consumed, discarded, waiting and busy
+-- The counts of the seats and of the consumer are those of the history. So each worker's reservations are in it once
+-- each, in its own order, and the number of reservations equals that of records consumed, discarded, waiting and busy.
 pub record AreTied (seats : List WorkerSeat) (consumer : ChapterConsumerSeat) (b : Book) : Type 0 where
   pub seats_tie : All (λ s. Ties s.worker s.tally b) seats
   pub in_order : All (λ s. serials_of s.worker b.history ≡ numbers_below s.tally.made) seats
   pub consumer_ties : ConsumerTies consumer.consumed consumer.skipped consumer.position b
   pub balanced : ReservationsBalance seats (counts_of b.history)
 
--- all seats and the consumer are gathered at the ring with its whole history, which has the entries of the chapters that the consumer was handed
--- in front; these may be bound with the ring's last one
+-- All seats and the consumer are gathered at the ring with its whole history, which begins with the entries of the
+-- chapters that the consumer was handed; these may be bound with the ring's last one.
 pub record IsGatheredByChapters (last : ChapterRing) (seats : List WorkerSeat) (consumer : ChapterConsumerSeat) : Type 0 where
   pub may_bind : MayBind consumer.handed_out last.chapter
   pub tied : AreTied seats consumer (book_of (whole_of (chaptered_ring consumer.handed_out last)))
   pub gathered : IsGathered (whole_of (chaptered_ring consumer.handed_out last)) seats (whole_consumer consumer)
 
--- what `close` promises where it is Ok: all are gathered, and each seat accounts for its part of the whole history
+-- what `close` promises if it returns Ok: all are gathered, and each seat accounts for its part of the whole history
 pub record IsClosedByChapters (last : ChapterRing) (seats : List WorkerSeat) (consumer : ChapterConsumerSeat) : Type 0 where
   pub gathered : IsGatheredByChapters last seats consumer
   pub closed : IsClosed (whole_of (chaptered_ring consumer.handed_out last)) seats (whole_consumer consumer)
@@ -67,7 +67,8 @@ pub record IsClosedByChapters (last : ChapterRing) (seats : List WorkerSeat) (co
 abbrev pub consumer_knowledge : ChapterConsumerSeat → ChapterKnowledge
 consumer_knowledge c = record { whole = role_knowledge Consumer c.seen c.got; room = c.room; handed_out = c.handed_out }
 
--- so it is once a pass with the roles of all seats and of the consumer, each with its own numbers, took the state out
+-- this holds once a pass with the roles of all seats and of the consumer, each with its own counts, has taken the state
+-- out
 abbrev pub ClosedWhereGathered : Type 0
 ClosedWhereGathered =
     (seats : List WorkerSeat) (consumer : ChapterConsumerSeat) (workers : List ChapterKnowledge) (r : ChapterRing) (after : ChapterPassView)

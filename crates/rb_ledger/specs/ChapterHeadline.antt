@@ -1,7 +1,8 @@
--- The headline over chapters, in its own words: "Whenever a ring's lock is free, the chapter kept under it is legal from its opening, as one
--- thread's run, and is what the ring's state stands for; and once all seats, consumer and chapters are gathered and bound, the history
--- holds each worker's reservations once each in its own order, bytes taken are those submitted, and reservations equal records consumed,
--- discarded, waiting and busy, for any number of workers" (own). One premise is named: the chapters are those that the ring handed out.
+-- The headline over chapters, in words: "Whenever a ring's lock is free, the chapter kept under it is legal from its
+-- opening, as one thread's run, and is what the ring's state stands for; and once all seats, consumer and chapters are
+-- gathered and bound, the history holds each worker's reservations once each in its own order, bytes taken are those
+-- submitted, and reservations equal records consumed, discarded, waiting and busy, for any number of workers" (own). It
+-- has one explicit premise: the chapters are those that the ring handed out.
 use Rattle.std.specs.Prelude.{◌≡◌, ◌≢◌, ◌↔◌, ℕ, List, [], ◌∷◌}
 use mathlib.Core.Option.{some}
 use lib.ListN.{get_elem?}
@@ -24,19 +25,20 @@ use Rattle.rb_ledger.specs.ChapterClosing.{MayBind, IsGatheredByChapters, IsClos
 
 -- ---- whenever the lock is free
 
--- calls of the sequential ring, one for each entry, lead from the one ring to the other
+-- calls of the sequential ring, one for each entry, lead from the old ring to the new one
 abbrev pub IsRunTo : Ring → List Entry → Ring → Type 0
 IsRunTo old [] new = new ≡ old
 IsRunTo old (e ∷ es) new = (next : Ring) × IsOneCall old e next × IsRunTo next es new
 
--- the entries are one thread's run of the sequential ring, from where a run from its opening came to by the earlier ones
+-- the entries are one thread's run of the sequential ring, which continues a run of the earlier entries from the ring's
+-- opening
 pub record IsRunBehind (setup : Setup) (earlier entries : List Entry) : Type 0 where
   pub at_opening : Ring
   pub earlier_run : IsRunTo (fresh setup.size setup.start setup.workers) earlier at_opening
   pub run : IsRunFrom at_opening entries
 
--- what holds of the ring under the lock, where these chapters were handed out: its chapter begins with what they stand for, is legal from
--- there, as one thread's run behind theirs, and is what its state stands for
+-- The ring under the lock, after these chapters were handed out: the opening of its chapter is their summary; it is
+-- legal from there, as one thread's run that continues theirs; and the ring's state agrees with it.
 pub record IsSequentialByChapter (handed_out : List Chapter) (v : ChapterRing) : Type 0 where
   pub goes_on : Binds handed_out v.chapter
   pub opening_is : v.chapter.opening ≡ standing_of v.chapter.opening.setup (joined handed_out)
@@ -44,7 +46,8 @@ pub record IsSequentialByChapter (handed_out : List Chapter) (v : ChapterRing) :
   pub one_run : IsRunBehind v.chapter.opening.setup (joined handed_out) v.chapter.entries
   pub stands_for : StandsForChapter v
 
--- "Whenever a ring's lock is free": the state lies in the queue, and somebody has a seat; the consumer knows the chapters that were handed out
+-- "Whenever a ring's lock is free": the state is in the queue, and some pass has a role; the consumer knows the
+-- chapters that were handed out.
 abbrev pub WheneverFreeByChapter : Type 0
 WheneverFreeByChapter =
     (v : ChapterRing) (views : List ChapterPassView) → KeepsChapterLockRule (v ∷ []) views → (pass : ℕ) (u : ChapterPassView) → get_elem? views pass ≡ some u → u.knows ≢ []
@@ -56,15 +59,15 @@ abbrev pub AllLegal : List Chapter → Type 0
 AllLegal [] = Unit {0}
 AllLegal (c ∷ cs) = IsLegalChapter c × AllLegal cs
 
--- chapters may be bound exactly where they are a ring's, all being legal
+-- chapters that are legal may be bound if and only if they are those of a ring
 abbrev pub BindsWhereItMay : Type 0
 BindsWhereItMay = (chapters : List Chapter) (last : Chapter) → AllLegal chapters → IsLegalChapter last → MayBind chapters last ↔ Binds chapters last
 
--- those that the ring handed out are
+-- the chapters that the ring handed out, followed by its last one, are those of a ring
 abbrev pub HandedOutBind : Type 0
 HandedOutBind = (last : ChapterRing) (seats : List WorkerSeat) (consumer : ChapterConsumerSeat) → IsGatheredByChapters last seats consumer → Binds consumer.handed_out last.chapter
 
--- whatever chapters were bound, all seats tie to the history
+-- whatever chapters were bound, all seats agree with the history
 abbrev pub TiedOnceBound : Type 0
 TiedOnceBound =
     (last : ChapterRing) (seats : List WorkerSeat) (consumer : ChapterConsumerSeat) (chapters : List Chapter) (history : List Entry)
@@ -74,7 +77,8 @@ TiedOnceBound =
 abbrev pub bound_ring : ChapterRing → List Entry → Ring
 bound_ring last history = record (whole_of (chaptered_ring [] last)) { history = history }
 
--- where the chapters are those that the ring handed out, the history is the ring's whole history: the ring is closed with it, and gathered
+-- if the chapters are those that the ring handed out, the history is the ring's whole history: the ring is closed with
+-- it, and gathered
 abbrev pub GatheredOnceBound : Type 0
 GatheredOnceBound =
     (last : ChapterRing) (seats : List WorkerSeat) (consumer : ChapterConsumerSeat) (chapters : List Chapter) (history : List Entry)

@@ -1,4 +1,4 @@
--- What a role and a pass know of a ring over chapters under the lock (own).
+-- What a role and a pass know about a ring with chapters under the lock (own).
 use Rattle.std.specs.Prelude.{◌≡◌, ℕ, List, [], ◌∷◌, Option, Some, None, map}
 use Rattle.rb_history.specs.RingModel.{Ring}
 use Rattle.rb_chapter_ring.specs.Chapters.{Chapter}
@@ -6,14 +6,14 @@ use Rattle.rb_ledger.specs.Roles.Role.{Consumer}
 use Rattle.rb_ledger.specs.RoleKnowledge.{RoleKnowledge, PassView, pass_view}
 use Rattle.rb_ledger.specs.ChapteredRing.{ChapteredRing, whole_of}
 
--- what a role knows of the whole history; and, where it is the consumer, how many entries each chapter has room for, and the chapters that
--- were handed out
+-- what a role knows about the whole history; and, for the consumer, the room of each chapter and the chapters that were
+-- handed out
 pub record ChapterKnowledge : Type 0 where
   pub whole : RoleKnowledge
   pub room : ℕ
   pub handed_out : List Chapter
 
--- a pass: the roles that it has with what each knows, and the state where it has it out of the lock
+-- a pass: its roles with what each knows, and the state if the pass holds it
 pub record ChapterPassView : Type 0 where
   pub knows : List ChapterKnowledge
   pub out : Option ChapteredRing
@@ -21,7 +21,7 @@ pub record ChapterPassView : Type 0 where
 abbrev pub chapter_view : List ChapterKnowledge → Option ChapteredRing → ChapterPassView
 chapter_view knows out = record { knows = knows; out = out }
 
--- ---- the same, of the ring with its whole history
+-- ---- the same, for the ring with its whole history
 
 abbrev pub whole_out : Option ChapteredRing → Option Ring
 whole_out None = None
@@ -35,7 +35,7 @@ whole_view v = pass_view (whole_knowledge v.knows) (whole_out v.out)
 
 -- ---- what the consumer knows
 
--- the consumer knows the chapters' room and those that were handed out; of what a worker knows nothing is said
+-- the consumer knows the chapters' room and those that were handed out; a worker's knowledge is unrestricted
 abbrev pub KnowsHandedOut : ℕ → List Chapter → ChapterKnowledge → Type 0
 KnowsHandedOut room handed_out k = k.whole.role ≡ Consumer → (k.room ≡ room) × (k.handed_out ≡ handed_out)
 

@@ -1,5 +1,5 @@
--- What keeps the lock's rule over chapters: taking the state out, putting it back after a call or after a chapter was handed out, putting the
--- first one in, and splitting and joining roles (own).
+-- What preserves the lock's rule over chapters: taking the state out, putting it back after a call or after a chapter
+-- was handed out, putting the first one in, and splitting and joining roles (own).
 use Rattle.std.specs.Prelude.{◌≡◌, ℕ, [], ◌∷◌, ◌++◌, Some, None}
 use Rattle.std.specs.FinMap.{empty}
 use Rattle.crossbeam_queue.specs.Fifo.{Pushes, Pops, Forks, Merges, Learns}
@@ -19,30 +19,31 @@ use Rattle.rb_ledger.specs.ChapterLockSteps.{TakesChapterState, MayPutChapter, P
 
 -- ---- when a state may be put back
 
--- from the one ring to the other is a step of the role, by the whole history
+-- the change from the one ring to the other is a step of the role, over the whole history
 abbrev pub IsWholeStep : ChapterKnowledge → ChapteredRing → ChapteredRing → Type 0
 IsWholeStep me out left = RoleStep me.whole (whole_of out) (whole_of left) (knowledge_after (whole_of out) (whole_of left) me.whole)
 
--- after a call: where it left the ring in the same chapter, which is legal and has room for what it owes, by a step of the role
+-- after a call: if it left the ring in the same chapter, which is legal and has room for what it owes, by a step of the
+-- role
 abbrev pub CallsMayPut : Type 0
 CallsMayPut =
     (me : ChapterKnowledge) (out : ChapteredRing) (new : ChapterRing) → HasChapters out → IsSameChapter out.ring new → IsLegalChapter new.chapter → HasRoomForOwed new.chapter
     → IsWholeStep me out (chaptered_ring out.handed_out new) → MayPutChapter (chapter_view (me ∷ []) (Some out)) new
 
--- after a chapter was handed out: the consumer may
+-- after a chapter was handed out: the consumer may put the state back
 abbrev pub HandsOutMayPut : Type 0
 HandsOutMayPut =
     (me : ChapterKnowledge) (out : ChapteredRing) (new : ChapterRing) (c : Chapter) → me.whole.role ≡ Consumer → HasChapters out → IsRing (whole_of out) → HandsOut out.ring new c
     → MayPutChapter (chapter_view (me ∷ []) (Some out)) new
 
--- what holds of the state by itself, and that its chapter goes on from those that were handed out, is all that holds of each ring that is
--- made by calls
+-- the invariants of the state itself, and that its chapter continues those that were handed out, are everything that
+-- holds of a ring made by calls
 abbrev pub FactsMakeRing : Type 0
 FactsMakeRing = (c : ChapteredRing) → Binds c.handed_out c.ring.chapter → HasRoomForOwed c.ring.chapter → IsChapterRoom c.ring.chapter.room → StandsForChapter c.ring → IsWithinBounds (whole_of c) → IsChapteredRing c
 
--- ---- each step keeps the rule
+-- ---- each step preserves the rule
 
--- it holds of an empty queue and the one pass that puts the first state in
+-- it holds of an empty queue and the single pass that puts the first state in
 abbrev pub HoldsAtFirst : Type 0
 HoldsAtFirst = KeepsChapterLockRule [] (chapter_view [] (Some unopened_chapters) ∷ [])
 
@@ -57,7 +58,7 @@ KeptWhereTakenOut = (pass : ℕ) (v : ChapterPassView) → v.out ≡ None → Po
 abbrev pub KeptWherePutBack : Type 0
 KeptWherePutBack = (n pass : ℕ) (v : ChapterPassView) (new : ChapterRing) → MayPutChapter v new → Pushes KeepsChapterLockRule n pass v new (PutsChapterState v new)
 
--- while a pass has the state out, the queue is empty
+-- while a pass holds the state, the queue is empty
 abbrev pub IsAwayWhereOut : Type 0
 IsAwayWhereOut = (pass : ℕ) (v : ChapterPassView) (c : ChapteredRing) → v.out ≡ Some c → Learns KeepsChapterLockRule pass v (λ items. items ≡ [])
 

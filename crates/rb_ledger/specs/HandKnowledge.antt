@@ -1,4 +1,4 @@
--- What a role and a pass know of a ring with hands under the lock (own).
+-- What a role and a pass know about a ring with hands under the lock (own).
 use Rattle.std.specs.Prelude.{◌≡◌, ℕ, List, [], ◌∷◌, Option, Some, None, map, length}
 use Rattle.rb_chapter_ring.specs.Chapters.{Chapter, joined}
 use Rattle.rb_chapter_ring.specs.ChapterRing.{ChapterRing}
@@ -17,18 +17,18 @@ pub record ChapteredHandRing : Type 0 where
 abbrev pub hand_ring_of : ChapteredHandRing → HandRing
 hand_ring_of c = hand_ring c.chaptered.ring c.hands
 
--- where the ring's own chapter begins in its whole history: how many entries were handed out
+-- where the ring's own chapter begins in its whole history: the number of entries that were handed out
 abbrev pub cut_of : ChapteredRing → ℕ
 cut_of c = length (joined c.handed_out)
 
--- what a role knows of the ring over chapters, and how many entries were handed out when it saw the ring last; and, where it is a worker, what is
--- in its hands
+-- what a role knows about the ring with chapters, and how many entries had been handed out when it last saw the ring;
+-- and, for a worker, the contents of its hands
 pub record HandKnowledge : Type 0 where
   pub chapter : ChapterKnowledge
   pub cut : ℕ
   pub hands : Hands
 
--- a pass: the roles that it has with what each knows, and the state where it has it out of the lock
+-- a pass: its roles with what each knows, and the state if the pass holds it
 pub record HandPassView : Type 0 where
   pub knows : List HandKnowledge
   pub out : Option ChapteredHandRing
@@ -51,10 +51,10 @@ without_hands v = chapter_view (chapters_known v.knows) (chapters_out v.out)
 abbrev pub rings_of : List HandRing → List ChapterRing
 rings_of vs = map (λ v. v.ring) vs
 
--- ---- what roles know of a ring
+-- ---- what roles know about a ring
 
--- of a ring with this room, these chapters handed out and this book: the role knows the room; what it knows to be handed out was, when it saw the ring
--- last; and a worker's hands are the book's
+-- For a ring with this room, these chapters handed out and this book: the role knows the room; what it knows to be
+-- handed out was, when it last saw the ring; and a worker's hands are those of the book.
 pub record KnowsHands (room : ℕ) (handed_out : List Chapter) (book : HandBook) (k : HandKnowledge) : Type 0 where
   pub room_is : k.chapter.room ≡ room
   pub cut_is : IsCutOf handed_out k.cut (length k.chapter.whole.seen.history)

@@ -1,4 +1,5 @@
--- What keeps the lock's rule with hands: taking the state out, putting it back, putting the first one in, and splitting and joining roles (own).
+-- What preserves the lock's rule with hands: taking the state out, putting it back, putting the first one in, and
+-- splitting and joining roles (own).
 use Rattle.std.specs.Prelude.{◌≡◌, ℕ, [], ◌∷◌, ◌++◌, Option, Some, None}
 use Rattle.std.specs.FinMap.{empty}
 use Rattle.crossbeam_queue.specs.Fifo.{Pushes, Pops, Forks, Merges, Learns}
@@ -12,13 +13,13 @@ use Rattle.rb_ledger.specs.HandKnowledge.{ChapteredHandRing, HandPassView, hand_
 use Rattle.rb_ledger.specs.LockRule.{KeepsHandLockRule}
 use Rattle.rb_ledger.specs.HandLockSteps.{TakesHandState, MayPutHands, PutsHandState, LeavesOtherHands, unopened_hands, OpensHandState, first_hand_role, other_hand_roles}
 
--- a change of one worker's hand leaves the hands of all others
+-- a change of one worker's hand leaves the hands of all others unchanged
 abbrev pub OneHandLeavesOthers : Type 0
 OneHandLeavesOthers = (w h : ℕ) (x : Option OutRecord) (old new : HandBook) → new ≡ with_hand old w h x → LeavesOtherHands (Worker w) old new
 
--- ---- each step keeps the rule
+-- ---- each step preserves the rule
 
--- it holds of an empty queue and the one pass that puts the first state in
+-- it holds of an empty queue and the single pass that puts the first state in
 abbrev pub HandsHoldAtFirst : Type 0
 HandsHoldAtFirst = KeepsHandLockRule [] (hand_view [] (Some unopened_hands) ∷ [])
 
@@ -33,7 +34,7 @@ HandsKeptWhereTakenOut = (pass : ℕ) (v : HandPassView) → v.out ≡ None → 
 abbrev pub HandsKeptWherePutBack : Type 0
 HandsKeptWherePutBack = (n pass : ℕ) (v : HandPassView) (new : HandRing) → MayPutHands v new → Pushes KeepsHandLockRule n pass v new (PutsHandState v new)
 
--- while a pass has the state out, the queue is empty
+-- while a pass holds the state, the queue is empty
 abbrev pub HandsAreAwayWhereOut : Type 0
 HandsAreAwayWhereOut = (pass : ℕ) (v : HandPassView) (c : ChapteredHandRing) → v.out ≡ Some c → Learns KeepsHandLockRule pass v (λ items. items ≡ [])
 

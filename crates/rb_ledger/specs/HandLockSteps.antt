@@ -1,5 +1,5 @@
--- The steps of a pass at the lock of a ring with hands: the state is taken out, put back, and put in for the first time; roles are split off (own).
--- They are those of `ChapterLockSteps.antt`, with hands.
+-- The steps of a pass at the lock of a ring with hands: the state is taken out, put back, and put in for the first
+-- time; roles are split off (own). They are those of `ChapterLockSteps.antt`, with hands.
 use Rattle.std.specs.Prelude.{◌≡◌, ℕ, zero, suc, ◌+◌, false, List, [], ◌∷◌, Option, Some, None}
 use Rattle.rb_ledger.specs.Roles.{Role, Book, book_of}
 use Rattle.rb_ledger.specs.Roles.Role.{Consumer, Worker}
@@ -13,7 +13,7 @@ use Rattle.rb_ledger.specs.HandKnowledge.{ChapteredHandRing, hand_ring_of, cut_o
 
 -- ---- the state is taken out, and put back after one call of the pass's role
 
--- the pass then has the state, of which all that its roles know is so
+-- the pass then holds the state, which agrees with everything that the pass's roles know
 pub record TakesHandState (v : HandPassView) (r : HandRing) (w : HandPassView) : Type 0 where
   pub taken : ChapteredHandRing
   pub ring_is : hand_ring_of taken ≡ r
@@ -22,12 +22,12 @@ pub record TakesHandState (v : HandPassView) (r : HandRing) (w : HandPassView) :
   pub out_is : w ≡ hand_view v.knows (Some taken)
   pub chapters : TakesChapterState (without_hands v) r.ring (without_hands w)
 
--- what a role shows of its hands once it has put back a state
+-- what a role shows of its hands after it has put back a state
 abbrev pub hands_known_by : Role → HandBook → Hands → Hands
 hands_known_by Consumer now known = known
 hands_known_by (Worker w) now known = hands_of now w
 
--- what a role knows then
+-- what a role then knows
 abbrev pub hand_knowledge_after : ChapteredHandRing → HandRing → HandKnowledge → HandKnowledge
 hand_knowledge_after out new k = record {
   chapter = chapter_knowledge_after out.chaptered new.ring k.chapter;
@@ -46,11 +46,12 @@ hand_view_after_put v new (Some out) = hand_view (hands_known_after_put out new 
 abbrev pub PutsHandState : HandPassView → HandRing → HandPassView → Type 0
 PutsHandState v new w = w ≡ hand_view_after_put v new v.out
 
--- the hands of all other workers are as they were
+-- the hands of all other workers are unchanged
 abbrev pub LeavesOtherHands : Role → HandBook → HandBook → Type 0
 LeavesOtherHands role old new = (w : ℕ) → same_role role (Worker w) ≡ false → hands_of new w ≡ hands_of old w
 
--- the pass may put back this state: it may without hands, the records of its book are the busy ones, and it leaves the hands of all other workers
+-- The pass may put back this state: it may do so without hands, the records of its book are the busy ones, and the
+-- hands of all other workers are unchanged.
 pub record MayPutHands (v : HandPassView) (new : HandRing) : Type 0 where
   pub me : HandKnowledge
   pub out : ChapteredHandRing
@@ -61,7 +62,7 @@ pub record MayPutHands (v : HandPassView) (new : HandRing) : Type 0 where
 
 -- ---- the lock is opened
 
--- what a lock has out before it is opened
+-- the state that a pass holds before the lock is opened
 abbrev pub unopened_hands : ChapteredHandRing
 unopened_hands = record { chaptered = unopened_chapters; hands = [] }
 
@@ -80,7 +81,7 @@ opening_hand_roles r =
     let seen = book_of (whole_of (chaptered_ring [] r.ring)) in
     opening_hands (opening_role Consumer seen r.ring.chapter.room) ∷ opening_worker_hands seen r.ring.chapter.room 0 r.ring.chapter.opening.setup.workers
 
--- the first state is put in, and all roles are there, with free hands
+-- the first state is put in, and the pass has all roles, with free hands
 abbrev pub OpensHandState : HandPassView → HandRing → HandPassView → Type 0
 OpensHandState v r w = w ≡ hand_view (opening_hand_roles r) None
 

@@ -1,7 +1,7 @@
--- The headline, in its own words: "Whenever a ring's lock is free, the history kept under it is legal, as one thread's run of the
--- sequential ring, and is what the ring's state stands for; and once all seats and the consumer are gathered, the history holds each
--- worker's reservations once each in its own order, bytes taken are those submitted, and reservations equal records consumed,
--- discarded, waiting and busy, for any number of workers" (own).
+-- The headline, in words: "Whenever a ring's lock is free, the history kept under it is legal, as one thread's run of
+-- the sequential ring, and is what the ring's state stands for; and once all seats and the consumer are gathered, the
+-- history holds each worker's reservations once each in its own order, bytes taken are those submitted, and
+-- reservations equal records consumed, discarded, waiting and busy, for any number of workers" (own).
 use Rattle.std.specs.Prelude.{◌≡◌, ◌≢◌, ℕ, ◌+◌, ◌<◌, ◌↔◌, true, List, [], ◌∷◌, Some}
 use Rattle.std.specs.List.{All, Any}
 use Rattle.std.specs.FinMap.{get}
@@ -24,8 +24,8 @@ use Rattle.rb_ledger.specs.Seats.{WorkerSeat, ConsumerSeatValue, Ties, ConsumerT
 
 -- ---- a ring that was closed
 
--- the history begins with what the seat has seen and has no entry of the seat's own behind that; the seat's numbers are those of its
--- worker's entries; and its records' serials are 0 to made - 1, in this order
+-- The history begins with what the seat has seen, and has no entry of the seat's own after that; the seat's counts are
+-- those of its worker's entries; and its records' serials are 0 to made - 1, in this order.
 pub record Accounts (b : Book) (s : WorkerSeat) : Type 0 where
   pub goes_on : ExtendsSeen (Worker s.worker) s.seen b
   pub ties : Ties s.worker s.tally b
@@ -35,15 +35,15 @@ pub record Accounts (b : Book) (s : WorkerSeat) : Type 0 where
 abbrev pub IsSentBy : List WorkerSeat → Book → ℕ → List ℕ → Type 0
 IsSentBy seats b p bytes = Any (λ s. (is_record_of s.worker b.history p ≡ true) × (get s.sent p ≡ Some bytes)) seats
 
--- each of these bytes is what the seat of its record's worker sent there
+-- all of these bytes are those that the seat of their record's worker sent
 abbrev pub AreSent : List WorkerSeat → Book → Contents → Type 0
 AreSent seats b bytes_at = (p : ℕ) (bytes : List ℕ) → get bytes_at p ≡ Some bytes → IsSentBy seats b p bytes
 
--- all records that were made are consumed, discarded, waiting or busy
+-- each record that was made is consumed, discarded, waiting or busy
 abbrev pub ReservationsBalance : List WorkerSeat → Counts → Type 0
 ReservationsBalance seats n = all_made seats ≡ n.consumed + n.discarded + n.waiting + n.busy
 
--- the ring, once all seats and the consumer are gathered: what `close` promises where it is Ok
+-- the ring, once all seats and the consumer are gathered: what `close` promises if it returns Ok
 pub record IsClosed (r : Ring) (seats : List WorkerSeat) (consumer : ConsumerSeatValue) : Type 0 where
   pub is_ring : IsRing r
   pub each_once : (w : ℕ) → w < r.setup.workers → seats_of w seats ≡ 1
@@ -54,9 +54,10 @@ pub record IsClosed (r : Ring) (seats : List WorkerSeat) (consumer : ConsumerSea
   pub waiting_is_sent : AreSent seats (book_of r) r.contents
   pub balanced : ReservationsBalance seats (counts_of r.history)
 
--- ---- the seats' numbers and the counts
+-- ---- the seats' counts and the ring's counts
 
--- what the seats submitted is consumed or waiting, what they discarded is discarded, and what is left of what they made is busy
+-- what the seats submitted is consumed or waiting, what they discarded is discarded, and the rest of what they made is
+-- busy
 pub record NumbersAgree (seats : List WorkerSeat) (n : Counts) : Type 0 where
   pub within : All SettlesWithin seats
   pub submitted_are : all_submitted seats ≡ n.consumed + n.waiting
@@ -78,13 +79,13 @@ IsRunFrom old (e ∷ es) = (new : Ring) × IsOneCall old e new × IsRunFrom new 
 abbrev pub IsOneRun : Setup → List Entry → Type 0
 IsOneRun setup h = IsRunFrom (fresh setup.size setup.start setup.workers) h
 
--- what holds of the ring under the lock
+-- the ring under the lock
 pub record IsSequential (r : Ring) : Type 0 where
   pub legal : IsLegal r.setup r.history
   pub one_run : IsOneRun r.setup r.history
   pub stands_for : StandsFor r
 
--- "Whenever a ring's lock is free": the state lies in the queue, and somebody has a seat
+-- "Whenever a ring's lock is free": the state is in the queue, and some pass has a role.
 abbrev pub WheneverFree : Type 0
 WheneverFree =
     (r : Ring) (views : List PassView) → KeepsLockRule (r ∷ []) views → (pass : ℕ) (v : PassView) → get_elem? views pass ≡ some v → v.knows ≢ []

@@ -1,4 +1,4 @@
--- The ledger, which is the ring under the lock and all bytes that were ever submitted, and what fits it (own).
+-- The ledger (the ring under the lock, and all bytes that were ever submitted), and what agrees with it (own).
 use Rattle.std.specs.Prelude.{◌<◌}
 use Rattle.rb_history.specs.Legal.{IsLegal}
 use Rattle.rb_history.specs.RoomRule.{Setup}
@@ -13,13 +13,13 @@ pub record Ledger : Type 0 where
   pub ring : Ring
   pub sent : Contents
 
--- what holds of each ring that is made by calls
+-- the invariant of a ring that is made by calls
 pub record IsRing (r : Ring) : Type 0 where
   pub legal : IsLegal r.setup r.history
   pub stands : StandsFor r
   pub bounded : IsWithinBounds r
 
--- what lies in the ring was sent, and only submitted records were
+-- what is in the ring was sent, and only submitted records were
 pub record IsSoundLedger (s : Ledger) : Type 0 where
   pub is_ring : IsRing s.ring
   pub within : IsWithin s.ring.contents s.sent
@@ -29,12 +29,13 @@ abbrev pub IsRoleIn : Setup → Role → Type 0
 IsRoleIn setup Consumer = Unit {0}
 IsRoleIn setup (Worker w) = w < setup.workers
 
--- the bytes that a worker sent are all that was sent of its records; what the consumer got was sent
+-- the bytes that a worker sent are everything that was sent of its records; what the consumer received was sent
 abbrev pub BytesFit : Ledger → Role → Contents → Type 0
 BytesFit s Consumer got = IsWithin got s.sent
 BytesFit s (Worker w) sent = IsAllSentBy w s.ring.history s.sent sent
 
--- what a role knows fits: the ring goes on from what it saw with no entry of its own, and its bytes are those that were sent
+-- What a role knows agrees with the ledger: the ring continues what the role saw, with no entry of its own, and its
+-- bytes are those that were sent.
 pub record FitsLedger (s : Ledger) (k : RoleKnowledge) : Type 0 where
   pub sound : IsSoundLedger s
   pub is_role : IsRoleIn s.ring.setup k.role

@@ -1,4 +1,4 @@
--- What each call on a shared ring does and answers, at one point of the ring's history (own).
+-- What each call on a shared ring does and returns, at one point of the ring's history (own).
 use Rattle.std.specs.Prelude.{◌≡◌, ◌≢◌, ℕ, ◌+◌, ◌<◌, ◌≤◌, ◌↔◌, List, length, replicate, Result, Ok, Err}
 use Rattle.std.specs.FinMap.{insert}
 use Rattle.rb_history.specs.Span.{span}
@@ -16,9 +16,9 @@ use Rattle.rb_history.specs.declared.tally.Tally.{Tally}
 use Rattle.rb_ledger.specs.Roles.{Role, Book, book_of, ExtendsSeen}
 use Rattle.rb_ledger.specs.Ledger.{IsRing}
 
--- One call under the lock, by a role that had seen `before` and then has seen `after`. When the lock was taken the ring was at some point:
--- its history began with `before`, and what others had added since has no entry of the role's own. There the ring of one thread made the
--- call, which left the ring as the role then has seen it.
+-- One call under the lock, by a role that had seen `before` and afterwards has seen `after`. When the lock was
+-- acquired, the ring was at some point: its history began with `before`, and what others had added since has no entry
+-- of the role's own. There the ring of one thread made the call, which left the ring as the role has then seen it.
 pub record LockedCall (role : Role) (before after : Book) (call : Ring → Ring → Type 0) : Type 0 where
   pub point : Ring
   pub left : Ring
@@ -28,7 +28,7 @@ pub record LockedCall (role : Role) (before after : Book) (call : Ring → Ring 
   pub is_ring : IsRing left
   pub seen : after ≡ book_of left
 
--- ---- the calls, as their worker, arguments and answer say
+-- ---- the calls, by their worker, arguments and result
 
 abbrev pub Reserves : ℕ → ℕ → Result Granted (NoGrant × List ℕ) → Ring → Ring → Type 0
 Reserves w n (Ok r) old new = Grants old new w n r.pos r.serial × (r.worker ≡ w) × (r.bytes ≡ replicate n 0)
@@ -52,7 +52,7 @@ TakesAt t old new = Takes old new t × ((t ≡ BusyFront) ↔ HasBusyFront old) 
 abbrev pub Queries : ℕ → ℕ → Ring → Ring → Type 0
 Queries what answer old new = (new ≡ old) × (answer ≡ query_answer old.setup old.history what)
 
--- ---- what an answer adds to a seat's numbers and bytes
+-- ---- what a result adds to a seat's counts and bytes
 
 abbrev pub refused_by : Tally → NoGrant → Tally
 refused_by t Full = record t { refused = t.refused + 1 }
@@ -75,12 +75,12 @@ abbrev pub discarded_by : Tally → Result Notice Granted → Tally
 discarded_by t (Ok _) = record t { discarded = t.discarded + 1 }
 discarded_by t (Err s) = t
 
--- an output adds its bytes, at the position where its record stands
+-- an output adds its bytes, at the position of its record
 abbrev pub sent_by_output : Contents → ℕ → List ℕ → Result Notice (NoGrant × List ℕ) → Contents
 sent_by_output sent p bytes (Ok _) = insert sent p bytes
 sent_by_output sent p bytes (Err e) = sent
 
--- an event adds its bytes to what was got
+-- an event adds its bytes to what was received
 abbrev pub got_by : Contents → Taken → Contents
 got_by got (Event p w k bytes) = insert got p bytes
 got_by got _ = got
@@ -93,14 +93,14 @@ abbrev pub skips_in : Taken → ℕ
 skips_in (Skipped p n) = 1
 skips_in _ = 0
 
--- how far a take moves the consumer position
+-- how far a take advances the consumer position
 abbrev pub span_in : Taken → ℕ
 span_in (Event p w k bytes) = span (length bytes)
 span_in (Skipped p n) = span n
 span_in BusyFront = 0
 span_in Empty = 0
 
--- what was taken stood at this position
+-- what was taken was at this position
 abbrev pub IsTakenAt : ℕ → Taken → Type 0
 IsTakenAt at (Event p w k bytes) = p ≡ at
 IsTakenAt at (Skipped p n) = p ≡ at

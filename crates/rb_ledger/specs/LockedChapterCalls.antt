@@ -1,5 +1,5 @@
--- What the consumer's calls do and answer that name the chapter of a shared ring: how much of it is used, and handing it out, each at one point of the
--- ring's history; and that neither changes the ring with its whole history (own).
+-- What the consumer's calls that concern the chapter of a shared ring do and return, each at one point of the ring's
+-- history: how much of it is used, and handing it out. Neither changes the ring with its whole history (own).
 use Rattle.std.specs.Prelude.{◌≡◌, ℕ, List, [], ◌∷◌, ◌++◌, length}
 use Rattle.rb_chapter_ring.specs.Chapters.{Chapter}
 use Rattle.rb_chapter_ring.specs.ChapterRoom.{used, owed}
@@ -10,9 +10,10 @@ use Rattle.rb_ledger.specs.Roles.Role.{Consumer}
 use Rattle.rb_ledger.specs.LockedCalls.{LockedCall}
 use Rattle.rb_ledger.specs.ChapteredRing.{ChapteredRing, whole_of, IsChapteredRing}
 
--- One call under the lock, by a role that had seen `before` of the whole history and then has seen `after`. When the lock was taken the ring
--- was at some point: its whole history began with `before`, and what others had added since has no entry of the role's own. There the ring of
--- one thread made the call by its chapter, which left the ring as the role then has seen it.
+-- One call under the lock, by a role that had seen `before` of the whole history and afterwards has seen `after`. When
+-- the lock was acquired, the ring was at some point: its whole history began with `before`, and what others had added
+-- since has no entry of the role's own. There the ring of one thread made the call by its chapter, which left the ring
+-- as the role has then seen it.
 pub record LockedChapterCall (role : Role) (before after : Book) (call : ChapteredRing → ChapteredRing → Type 0) : Type 0 where
   pub point : ChapteredRing
   pub left : ChapteredRing
@@ -26,7 +27,7 @@ pub record LockedChapterCall (role : Role) (before after : Book) (call : Chapter
 abbrev pub InOneChapter : (ChapterRing → ChapterRing → Type 0) → ChapteredRing → ChapteredRing → Type 0
 InOneChapter Call old new = (new.handed_out ≡ old.handed_out) × Call old.ring new.ring
 
--- the same by the consumer, which knows the chapters that were handed out
+-- the same for the consumer, which knows the chapters that were handed out
 abbrev pub InKnownChapter : List Chapter → (ChapterRing → ChapterRing → Type 0) → ChapteredRing → ChapteredRing → Type 0
 InKnownChapter handed_out Call old new = (old.handed_out ≡ handed_out) × InOneChapter Call old new
 
@@ -34,13 +35,13 @@ InKnownChapter handed_out Call old new = (old.handed_out ≡ handed_out) × InOn
 abbrev pub TellsUsed : ℕ → ℕ → ChapterRing → ChapterRing → Type 0
 TellsUsed entries more old new = (new ≡ old) × (entries ≡ used old.chapter) × (more ≡ owed old.chapter)
 
--- the ring handed out its chapter, as the next one behind those that it had handed out
+-- the ring handed out its chapter, as the next one after those that it had handed out
 pub record HandsOutNext (handed_out : List Chapter) (c : Chapter) (old new : ChapteredRing) : Type 0 where
   pub before : old.handed_out ≡ handed_out
   pub after : new.handed_out ≡ handed_out ++ c ∷ []
   pub hands_out : HandsOut old.ring new.ring c
 
--- ---- each leaves the ring with its whole history
+-- ---- neither changes the ring with its whole history
 
 pub record AreWholeLockedCalls (before after : Book) : Type 0 where
   pub tells_used : (handed_out : List Chapter) (entries more : ℕ) → LockedChapterCall Consumer before after (InKnownChapter handed_out (TellsUsed entries more)) → LockedCall Consumer before after (λ old new. new ≡ old)

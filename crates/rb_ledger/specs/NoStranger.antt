@@ -1,6 +1,8 @@
--- No stranger: a reservation that was made on a ring by a seat is busy there, at its position, until that seat gives it back, whatever other threads
--- do; its submit and its discard are not refused, and all other calls of the seat leave it. So it is by what the seat has seen. And with hands: a seat shows
--- what is out in its worker's hands, and at every moment, wherever the ring's state is, the ring's book has that record in that hand and it is busy (own).
+-- No stranger: a reservation that a seat made on a ring is busy there, at its position, until that seat commits it,
+-- whatever other threads do. Its submit and its discard are not refused, and all other calls of the seat leave it
+-- unchanged. This is stated for what the seat has seen, and then with hands: a seat shows the contents of its worker's
+-- hands, and at every moment, wherever the ring's state is, the ring's book has that record in that hand, and it is
+-- busy (own).
 use Rattle.std.specs.Prelude.{◌≡◌, ◌≢◌, ◌↔◌, ℕ, true, List, [], ◌∷◌, Some, length, Result, is_ok}
 use Rattle.std.specs.List.{Contains}
 use mathlib.Core.Option.{some}
@@ -23,25 +25,26 @@ use Rattle.rb_ledger.specs.HandLockSteps.{TakesHandState, PutsHandState}
 
 -- ---- at the calls of a seat
 
--- the worker holds the record of the reservation: it is the worker's, and by what its seat has seen of the ring it is busy
+-- the worker holds the record of the reservation: it is the worker's, and it is busy in the history that its seat has
+-- seen
 pub record IsHeld (w : ℕ) (seen : Book) (r : Granted) : Type 0 where
   pub worker_is : r.worker ≡ w
   pub busy : IsBusy seen.history r.pos r.worker r.serial (length r.bytes)
 
--- one call of the ring at a worker's seat, which had seen the one book and then has seen the other
+-- one call of the ring at a worker's seat, which had seen `before` and afterwards has seen `after`
 abbrev pub SeatCall : ℕ → Book → Book → (Ring → Ring → Type 0) → Type 0
 SeatCall w before after Call = LockedCall (Worker w) before after Call
 
--- what the worker held before the call it holds after it
+-- what the worker held before the call it still holds after it
 abbrev pub LeavesHeld : ℕ → Book → Book → Type 0
 LeavesHeld w before after = (s : Granted) → IsHeld w before s → IsHeld w after s
 
--- but for a record at this position
+-- except for a record at this position
 abbrev pub LeavesHeldElsewhere : ℕ → Book → Book → ℕ → Type 0
 LeavesHeldElsewhere w before after p = (s : Granted) → s.pos ≢ p → IsHeld w before s → IsHeld w after s
 
--- a record that is granted is held, at a position where none was; one that is held is taken at its submit and its discard, whatever others did since; and
--- each call leaves all other held records
+-- A record that is granted is held, at a position where none was. If a record is held, its submit and its discard are
+-- accepted, whatever others did since. Each call leaves all other held records unchanged.
 pub record CallsKeepHeld (w : ℕ) (before after : Book) : Type 0 where
   pub granted : (r : Granted) → r.worker ≡ w → SeatCall w before after (λ old new. Grants old new w (length r.bytes) r.pos r.serial) → IsHeld w after r
   pub elsewhere : (n p k : ℕ) → SeatCall w before after (λ old new. Grants old new w n p k) → (s : Granted) → IsHeld w before s → s.pos ≢ p
@@ -71,7 +74,7 @@ pub record ShowsOut (v : HandPassView) (w h : ℕ) (o : OutRecord) : Type 0 wher
   pub role_is : knowledge.chapter.whole.role ≡ Worker w
   pub out_is : in_hand knowledge.hands h ≡ Some o
 
--- wherever the ring's state is: in the queue, or out with whatever pass
+-- wherever the ring's state is: in the queue, or out with any pass
 pub record IsOutWherever (queued : List HandRing) (views : List HandPassView) (w h : ℕ) (o : OutRecord) : Type 0 where
   pub in_queue : (v : HandRing) → Contains queued v → IsOutAt v w h o
   pub with_pass : (pass : ℕ) (v : HandPassView) (c : ChapteredHandRing) → get_elem? views pass ≡ some v → v.out ≡ Some c → IsOutAt (hand_ring_of c) w h o
@@ -83,13 +86,13 @@ NoStranger =
 
 -- ---- under the lock, with hands
 
--- where a pass takes the state out, that has what the pass shows: so what a submit or a discard of it asks for is so
+-- a state that a pass takes out has what the pass shows, so it meets the precondition of a submit or a discard of it
 abbrev pub TakenAsShown : Type 0
 TakenAsShown =
     (v w : HandPassView) (r : HandRing) → TakesHandState v r w → (g : Granted) (h : ℕ) → ShowsOut v g.worker h (out_record g.pos g.serial (length g.bytes))
     → HasInHand r h g × HoldsReservationFrom r.ring g
 
--- and once it has put a state back that has the hand as it was, it still shows it
+-- after the pass has put back a state with the same content of the hand, it still shows it
 abbrev pub StaysShown : Type 0
 StaysShown =
     (me : HandKnowledge) (out : ChapteredHandRing) (new : HandRing) (w : HandPassView) → PutsHandState (hand_view (me ∷ []) (Some out)) new w → (u h : ℕ) (o : OutRecord) → me.chapter.whole.role ≡ Worker u
@@ -97,13 +100,13 @@ StaysShown =
 
 -- ---- hands by the history that a seat has seen
 
--- one worker's hands are exactly its busy records, each once
+-- one worker's hands hold exactly its busy records, each once
 pub record HoldsOwnBusy (hands : Hands) (w : ℕ) (h : List Entry) : Type 0 where
   pub out_is_busy : (g : ℕ) (o : OutRecord) → in_hand hands g ≡ Some o → IsBusy h o.pos w o.serial o.len
   pub busy_is_out : (p k n : ℕ) → IsBusy h p w k n → (g : ℕ) × (in_hand hands g ≡ Some (out_record p k n))
   pub each_once : (f g : ℕ) (x y : OutRecord) → in_hand hands f ≡ Some x → in_hand hands g ≡ Some y → x.pos ≡ y.pos → f ≡ g
 
--- a worker's busy records are those of what its seat has seen: what stands behind that has no entry of the worker's own
+-- a worker's busy records are those of what its seat has seen: what comes after that has no entry of the worker's own
 abbrev pub OwnBusyIsSeen : Type 0
 OwnBusyIsSeen = (w : ℕ) (seen b : Book) → ExtendsSeen (Worker w) seen b → (p k n : ℕ) → IsBusy seen.history p w k n ↔ IsBusy b.history p w k n
 
@@ -111,6 +114,6 @@ OwnBusyIsSeen = (w : ℕ) (seen b : Book) → ExtendsSeen (Worker w) seen b → 
 abbrev pub HandsAreSeen : Type 0
 HandsAreSeen = (w : ℕ) (seen b : Book) (book : HandBook) → ExtendsSeen (Worker w) seen b → IsBookOf book b.history → HoldsOwnBusy (hands_of book w) w seen.history
 
--- and what is in them is busy at every later point of the ring's history too
+-- and their contents remain busy at every later point of the ring's history
 abbrev pub SeenHandsAreBusy : Type 0
 SeenHandsAreBusy = (w : ℕ) (seen b : Book) (hands : Hands) → ExtendsSeen (Worker w) seen b → HoldsOwnBusy hands w seen.history → HoldsOwnBusy hands w b.history

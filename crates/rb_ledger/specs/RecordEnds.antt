@@ -1,4 +1,5 @@
--- What the end of a record is to a shared ring, over its whole history, and what it adds to what its worker sent (own).
+-- The effect of a record's commit on a shared ring, over its whole history, and what it adds to what its worker sent
+-- (own).
 use Rattle.std.specs.Prelude.{ℕ, Ok}
 use Rattle.std.specs.FinMap.{insert}
 use Rattle.rb_history.specs.declared.answers.Notice.{Notice}
@@ -8,7 +9,7 @@ use Rattle.rb_chapter_ring.specs.declared.record_end.RecordEnd.{RecordEnd}
 use Rattle.rb_chapter_ring.specs.declared.record_end.RecordEnd.TheVariants.{Submit, Discard}
 use Rattle.rb_ledger.specs.LockedCalls.{SubmitsAt, DiscardsAt}
 
--- the reservation's record comes to this end, and is answered so
+-- the reservation's record is committed in this way, with this notice
 abbrev pub EndsAt : RecordEnd → Granted → ℕ → Notice → Ring → Ring → Type 0
 EndsAt Submit r flags notice = SubmitsAt r flags (Ok notice)
 EndsAt Discard r flags notice = DiscardsAt r flags (Ok notice)

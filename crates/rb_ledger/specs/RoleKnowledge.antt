@@ -1,16 +1,16 @@
--- What a role and a pass know of the ring under the lock (own).
+-- What a role and a pass know about the ring under the lock (own).
 use Rattle.std.specs.Prelude.{ℕ, ◌+◌, ◌==◌, Bool, true, false, List, [], ◌∷◌, ◌++◌, cond, Option, Some, None}
 use Rattle.rb_history.specs.RingModel.{Ring, Contents}
 use Rattle.rb_ledger.specs.Roles.{Role, Book}
 use Rattle.rb_ledger.specs.Roles.Role.{Consumer, Worker}
 
--- a role, the book as it saw it last, and the bytes that it sent or got, by position
+-- a role, the book as it last saw it, and the bytes that it sent or received, by position
 pub record RoleKnowledge : Type 0 where
   pub role : Role
   pub seen : Book
   pub bytes : Contents
 
--- a pass, which is the right to use the lock: the roles that it has with what each knows, and the state where it has it out of the lock
+-- a pass, which is the right to use the lock: its roles with what each knows, and the state if the pass holds it
 pub record PassView : Type 0 where
   pub knows : List RoleKnowledge
   pub out : Option Ring
@@ -43,7 +43,7 @@ abbrev pub state_list : Option Ring → List Ring
 state_list None = []
 state_list (Some r) = r ∷ []
 
--- the states that the passes have out
+-- the states that the passes hold
 abbrev pub states_out : List PassView → List Ring
 states_out [] = []
 states_out (v ∷ vs) = state_list v.out ++ states_out vs

@@ -1,4 +1,4 @@
--- The roles of seats that are gathered, and when a seat's numbers are its own (own).
+-- The roles of seats that are gathered, and when a seat's counts are its own (own).
 use Rattle.std.specs.Prelude.{List, [], ◌∷◌}
 use Rattle.rb_ledger.specs.Roles.Role.{Worker}
 use Rattle.rb_ledger.specs.RoleKnowledge.{RoleKnowledge, role_knowledge}
@@ -9,6 +9,6 @@ abbrev pub roles_of : List WorkerSeat → List RoleKnowledge
 roles_of [] = []
 roles_of (s ∷ ss) = role_knowledge (Worker s.worker) s.seen s.sent ∷ roles_of ss
 
--- the seat's numbers are those of its worker's entries in what it has seen
+-- the seat's counts are those of its worker's entries in what it has seen
 abbrev pub HasOwnCounts : WorkerSeat → Type 0
 HasOwnCounts s = Ties s.worker s.tally s.seen

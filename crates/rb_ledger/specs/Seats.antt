@@ -1,4 +1,4 @@
--- What contracts see of a shared ring and of its seats (own).
+-- The view that contracts have of a shared ring and of its seats (own).
 use Rattle.std.specs.Prelude.{◌≡◌, ℕ, zero, suc, ◌+◌, ◌<◌, ◌≤◌, ◌==◌, Bool, true, List, [], ◌∷◌, Option, None}
 use Rattle.std.specs.List.{list_any, list_all, count_by, sum_by}
 use Rattle.std.specs.FinMap.{empty}
@@ -11,14 +11,14 @@ use Rattle.rb_chapter_ring.specs.Hands.{Hands, free_hands}
 use Rattle.rb_ledger.specs.Roles.{Book}
 use Rattle.rb_history.specs.WorkerCounts.{tally_of, events_of, skips_of}
 
--- a shared ring: the caller's number for it, and which ring it is
+-- a shared ring: the caller's tag for it, and its identity
 pub record Shared : Type 0 where
   pub tag : ℕ
   pub ring : TableId
 
--- a worker's seat: the tag and the ring that it was opened with, how many entries each chapter of the ring has room for, its numbers, its four
--- hands, the book as it saw it last, of which so many entries had been handed out in chapters, the bytes that it submitted or output, by
--- position, and the ring's state where the seat has it out of the lock
+-- A worker's seat: the tag and the ring with which it was opened; the room of each chapter of the ring; its counts; its
+-- four hands; the book as it last saw it, and how many of its entries had been handed out in chapters; the bytes that
+-- it submitted or output, by position; and the ring's state if the seat holds it.
 pub record WorkerSeat : Type 0 where
   pub tag : ℕ
   pub ring : TableId
@@ -44,19 +44,19 @@ pub record ConsumerSeatValue : Type 0 where
 
 -- ---- a seat and a history
 
--- the book is one of a ring that was opened: its bounds, and a legal history
+-- the book is that of a ring that was opened: its parameters are within bounds, and its history is legal
 pub record IsBook (b : Book) : Type 0 where
   pub size : IsRingSize b.setup.size
   pub start : IsStartPosition b.setup.start
   pub workers : IsWorkerCount b.setup.workers
   pub legal : IsLegal b.setup b.history
 
--- a worker's numbers tie to a book: they are those of the worker's entries there
+-- a worker's counts agree with a book: they are those of the worker's entries in it
 pub record Ties (w : ℕ) (t : Tally) (b : Book) : Type 0 where
   pub in_ring : w < b.setup.workers
   pub counted : t ≡ tally_of w b.history
 
--- the consumer's numbers tie to a book: they are those of the takes there, and its position is the consumer position
+-- the consumer's counts agree with a book: they are those of the takes in it, and its position is the consumer position
 pub record ConsumerTies (consumed skipped position : ℕ) (b : Book) : Type 0 where
   pub consumed_is : consumed ≡ events_of b.history
   pub skipped_is : skipped ≡ skips_of b.history
@@ -98,7 +98,7 @@ fresh_seats tag ring room seen first (suc n) = fresh_seat tag ring room first se
 abbrev pub are_tagged : ℕ → List WorkerSeat → Bool
 are_tagged tag seats = list_all (λ s. s.tag == tag) seats
 
--- the worker has a seat among these
+-- one of these seats is the worker's
 abbrev pub has_seat : ℕ → List WorkerSeat → Bool
 has_seat worker seats = list_any (λ s. s.worker == worker) seats
 
@@ -106,23 +106,23 @@ has_seat worker seats = list_any (λ s. s.worker == worker) seats
 abbrev pub HasAll : ℕ → List WorkerSeat → Type 0
 HasAll workers seats = (w : ℕ) → w < workers → has_seat w seats ≡ true
 
--- how many of the seats are the worker's
+-- the number of these seats that are the worker's
 abbrev pub seats_of : ℕ → List WorkerSeat → ℕ
 seats_of worker seats = count_by (λ s. s.worker == worker) seats
 
--- all reservations that the seats made
+-- the number of reservations that the seats made
 abbrev pub all_made : List WorkerSeat → ℕ
 all_made seats = sum_by (λ s. s.tally.made) seats
 
--- all records that they submitted, those that they output among them
+-- the number of records that they submitted, including outputs
 abbrev pub all_submitted : List WorkerSeat → ℕ
 all_submitted seats = sum_by (λ s. s.tally.submitted) seats
 
--- all records that they discarded
+-- the number of records that they discarded
 abbrev pub all_discarded : List WorkerSeat → ℕ
 all_discarded seats = sum_by (λ s. s.tally.discarded) seats
 
--- the seat submitted and discarded no more records than it was granted
+-- the seat submitted and discarded at most as many records as it was granted
 abbrev pub SettlesWithin : WorkerSeat → Type 0
 SettlesWithin s = s.tally.submitted + s.tally.discarded ≤ s.tally.made
 

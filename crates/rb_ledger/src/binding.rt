@@ -1,4 +1,4 @@
-//! Chapters are bound: their entries are joined to one history.
+//! Binding chapters: joining their entries to one history.
 
 ghost use Rattle.std.specs.Prelude.{◌≡◌, ◌↔◌, ◌++◌, ◌∷◌, [], IfOk, IsErrOf, IsTrue, replicate, length};
 ghost use Rattle.rb_chapter_ring.specs.Standing.{no_tally};
@@ -16,20 +16,20 @@ use thiserror::Error;
 /// Why chapters can't be bound: the first of these that applies, in this order.
 #[derive(Clone, Copy, Debug, Error, PartialEq, Eq)]
 pub enum BindFault {
-    /// The chapters, with the last one behind them, are not numbered 0 upward.
+    /// The chapters, followed by the last one, are not numbered consecutively from 0.
     #[error("the chapters are not numbered 0 upward")]
     Number,
-    /// The first does not open an empty ring, or one does not begin where the one before it ends: what it opens with is not what all entries
-    /// before it stand for.
+    /// The first chapter does not open an empty ring, or a chapter does not begin where the previous one ends: its
+    /// opening is not the summary of all entries before it.
     #[error("the chapters do not go on from an empty ring")]
     Opening,
-    /// A growth was refused: there is no memory for the history.
+    /// Memory for the history could not be allocated.
     #[error("out of memory")]
     Memory,
 }
 
-/// Joins the entries of chapters and of the last one, behind them, to the whole history. Of the faults that apply the first is returned. In time
-/// linear in the entries, and in each chapter's untaken records and workers.
+/// Joins the entries of the chapters and of the last one to the whole history. Returns the first `BindFault` that
+/// applies. Takes time linear in the number of entries, and in each chapter's untaken records and workers.
 pub fn bind_chapters(
     alloc: Global,
     chapters: &[Chapter],
@@ -53,14 +53,14 @@ pub fn bind_chapters(
     Ok(history)
 }
 
-// Whether the chapters and the last one are numbered 0 upward.
+// Returns whether the chapters, followed by the last one, are numbered consecutively from 0.
 fn are_numbered(chapters: &[Chapter], last: &Chapter) -> bool
     ensures exact { IsTrue result ↔ AreNumberedFrom 0 (chapters.now ++ last.now ∷ []) }
 {
     are_numbered_upward(chapters) && last.number() == chapters.len() as u64
 }
 
-// Whether the chapters alone are.
+// Returns whether the chapters without the last one are.
 fn are_numbered_upward(chapters: &[Chapter]) -> bool
     ensures numbered { result ≡ numbered_from 0 chapters.now }
 {
@@ -74,7 +74,7 @@ fn are_numbered_upward(chapters: &[Chapter]) -> bool
     true
 }
 
-// Each chapter is legal. There is nothing to do.
+// States that each chapter is legal. It has nothing to do.
 fn are_legal(chapters: &[Chapter], last: &Chapter)
     ensures legal { AllLegal (chapters.now ++ last.now ∷ []) }
 {
@@ -84,7 +84,8 @@ fn are_legal(chapters: &[Chapter], last: &Chapter)
     last.facts();
 }
 
-// Whether each opens with what all entries before it stand for, from the empty history on; their numbers are so.
+// Returns whether the opening of each chapter is the summary of all entries before it, beginning with the empty
+// history, given that their numbers are right.
 fn go_on(chapters: &[Chapter], last: &Chapter) -> bool
     requires numbered { AreNumberedFrom 0 (chapters.now ++ last.now ∷ []) }
     requires legal { AllLegal (chapters.now ++ last.now ∷ []) }
@@ -93,7 +94,8 @@ fn go_on(chapters: &[Chapter], last: &Chapter) -> bool
     are_opened(chapters, last)
 }
 
-// Whether the first opens an empty ring, and each next one begins where the one before it ends; their numbers are so.
+// Returns whether the first chapter opens an empty ring and each further one begins where the previous one ends, given
+// that their numbers are right.
 fn are_opened(chapters: &[Chapter], last: &Chapter) -> bool
     requires numbered { AreNumberedFrom 0 (chapters.now ++ last.now ∷ []) }
     ensures exact { IsTrue result ↔ AreOpenedInTurn (chapters.now ++ last.now ∷ []) }
@@ -104,7 +106,7 @@ fn are_opened(chapters: &[Chapter], last: &Chapter) -> bool
     }
 }
 
-// Whether each chapter behind `first` is the one after the one before it, `last` after the last of them.
+// Returns whether each chapter after `first` meets the previous one, and `last` meets the last of them.
 fn each_meets(first: &Chapter, rest: &[Chapter], last: &Chapter) -> bool
     ensures exact { IsTrue result ↔ EachMeets first.now (rest.now ++ last.now ∷ []) }
 {
@@ -118,7 +120,7 @@ fn each_meets(first: &Chapter, rest: &[Chapter], last: &Chapter) -> bool
     earlier.meets(last)
 }
 
-// Whether the chapter begins with the empty ring of its setup.
+// Returns whether the chapter opens the empty ring of its setup.
 fn opens_empty_ring(chapter: &Chapter) -> bool
     ensures exact { IsTrue result ↔ (chapter.now.opening ≡ empty_ring chapter.now.opening.setup) }
 {
@@ -143,7 +145,7 @@ fn opens_empty_ring(chapter: &Chapter) -> bool
     are_none(opening.tallies())
 }
 
-// Whether nobody did anything.
+// Returns whether all totals are those of a worker without entries.
 fn are_none(tallies: &[Tally]) -> bool
     ensures exact { IsTrue result ↔ (tallies.now ≡ replicate (length tallies.now) no_tally) }
 {
@@ -155,7 +157,7 @@ fn are_none(tallies: &[Tally]) -> bool
     true
 }
 
-// All entries.
+// Returns all entries.
 fn join_entries(
     alloc: Global,
     chapters: &[Chapter],

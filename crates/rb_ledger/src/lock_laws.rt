@@ -1,8 +1,9 @@
-//! Laws of the lock of a ring over chapters, each the contract of a function that does nothing.
+//! Laws of the lock of a ring with chapters, each the contract of a function that does nothing.
 
 ghost use Rattle.rb_ledger.specs.ChapterLockLaws.{CallsMayPut, HandsOutMayPut, FactsMakeRing, HoldsAtFirst, KeptWhereOpened, KeptWhereTakenOut, KeptWherePutBack, IsAwayWhereOut, KeptWhereSplit, KeptWhereJoined};
 
-/// Each step of each thread at the lock keeps its rule, from the first on. The function does nothing; its contract is the law.
+/// States that each step of each thread at the lock preserves its rule, from the first one on. The function does
+/// nothing; its contract is the law.
 pub fn chapter_lock_rule_is_kept()
     ensures first { HoldsAtFirst }
     ensures opened { KeptWhereOpened }
@@ -13,9 +14,9 @@ pub fn chapter_lock_rule_is_kept()
     ensures joined { KeptWhereJoined }
 {}
 
-/// A call that, over the whole history, is a step of its role may put the state back, and so may the consumer that handed the chapter out:
-/// the whole ring is then as it was. What the ring of one thread tells of its state is all that has to hold of it then. The function does
-/// nothing; its contract is the law.
+/// States that a call which is a step of its role, over the whole history, may put the state back, and that the
+/// consumer may put it back after it handed out the chapter: the whole ring is then unchanged. Of the state itself,
+/// only the invariants of the ring of one thread are needed. The function does nothing; its contract is the law.
 pub fn state_may_be_put_back()
     ensures after_a_call { CallsMayPut }
     ensures handed_out { HandsOutMayPut }

@@ -1,4 +1,4 @@
--- A `Block` in memory is its bytes side by side, and back.
+-- A `Block` in memory is its bytes side by side, and conversely.
 use mathlib.Core.Path.{◌≡◌, refl, sym}
 use Prim.Native.Nat.{ℕ, zero, ◌+◌}
 use mathlib.Core.List.{List, [], ◌∷◌}
@@ -56,7 +56,7 @@ module _ (n : ℕ) where
   module _ {M : Type 1} {𝓤 : Ura M} (𝓛 : Logic 𝓤) (b o : ℕ) where
     open 𝓛 use {H}
 
-    -- what is left of the struct while its field is out
+    -- the rest of the struct while its field is moved out
     abbrev pub Left : SProp 𝓤
     Left = H.left full_share (ty_struct [] (raw_tys fields)) (raw_tys fields) b o
 

@@ -1,10 +1,10 @@
--- Bytes that are written into the front of a list, and that show there.
+-- Bytes that are written into the front of a list, and read back from it.
 use Rattle.std.proofs.Common.{◌≡◌, ℕ, zero, suc, ◌+◌, ◌≤◌, List, [], ◌∷◌, ◌++◌, length, take, drop, sym, ◌∙◌, ap, refl}
 use native.Mathlib.Omega.{arith}
 use Rattle.std.proofs.lemmas.List.{take-append-le, length-take-le}
 use Rattle.rb_lend.specs.Ranges.{in_place_of, written_at}
 
--- what lies behind the front does not show in it
+-- the elements after the front do not affect it
 front_alone : (n : ℕ) (w d : List ℕ) → take n (w ++ drop (length w) (take n d)) ≡ take n (w ++ drop (length w) d)
 front_alone zero w d = refl
 front_alone (suc n) [] [] = refl
@@ -18,7 +18,7 @@ written_in_front (suc at) zero d w = refl
 written_in_front (suc at) (suc n) [] w = refl
 written_in_front (suc at) (suc n) (x ∷ d) w = ap (λ l. x ∷ l) (written_in_front at n d w)
 
--- no byte is lost
+-- the length does not shrink
 covered : (w s : List ℕ) → length s ≤ length (w ++ drop (length w) s)
 covered [] s = omega arith
 covered (y ∷ w) [] = omega arith

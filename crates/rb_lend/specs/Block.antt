@@ -1,11 +1,11 @@
--- A block with other bytes, and how it lends them.
+-- How a block lends its bytes, and its value after the loan.
 use Rattle.std.specs.Prelude.{ℕ, List}
 use Rattle.std.specs.Borrow.{MutBor, Fml, RattleType, Lends, Array, u8}
 use Rattle.rb_lend.specs.Ranges.{written_at}
 use Rattle.rb_lend.specs.contracts.block.Block.{the_row}
 
 module _ (N : RattleType) where
-  -- the block with other bytes in place of as many from place `at` on
+  -- the block with the bytes from index `at` replaced
   abbrev pub block_with_part : (the_row N).Denot → ℕ → List ℕ → (the_row N).Denot
   block_with_part s at ws = record { bytes = written_at at s.bytes ws }
 

@@ -1,4 +1,4 @@
--- The law of bytes written in the place of as many others: they are what was written.
+-- The law of bytes that are overwritten by equally many others: the result is the new bytes.
 use Rattle.std.proofs.Common.{◌≡◌, ℕ, List, length, take, drop, ◌++◌, sym, ◌∙◌, ap}
 use Rattle.std.proofs.Math.Seq.{take-append_seam}
 use Rattle.rb_lend.specs.Ranges.{in_place_of}

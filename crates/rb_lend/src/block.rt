@@ -1,10 +1,10 @@
-//! Bytes side by side, which lend a range of themselves.
+//! A fixed number of bytes, which lends a range of them.
 
 ghost use Rattle.std.specs.Prelude.{◌≡◌, ◌+◌, ◌≤◌, take, drop, length};
 ghost use Rattle.std.specs.Borrow.{sem};
 ghost use Rattle.rb_lend.specs.Block.{LendsBlockRange};
 
-/// `N` bytes side by side.
+/// An array of `N` bytes.
 #[derive(Drop)]
 pub struct Block<const N: usize> {
     pub bytes: [u8; N],
@@ -19,7 +19,7 @@ impl<const N: usize> Block<N> {
         self.bytes.as_slice()
     }
 
-    /// Lends `len` bytes from place `at` on for writing.
+    /// Lends `len` bytes from index `at` for writing.
     pub fn range_mut(&mut self, at: usize, len: usize) -> &mut [u8]
         requires { at + len ≤ N }
         ensures* writes_back { sem 𝓛 (LendsBlockRange N.row self.entry at result) }

@@ -1,10 +1,10 @@
-//! What lends bytes.
+//! Values that lend their bytes.
 
 ghost use Rattle.std.specs.Prelude.{◌≡◌, ◌+◌, ◌≤◌, ℕ, List, length, take, drop};
 ghost use Rattle.std.specs.Borrow.{sem, Lends, Array, u8 as byte};
 ghost use Rattle.rb_lend.specs.Ranges.{written_at};
 
-/// A value that lends its bytes, for reading and for writing. Its calls are given neither an allocator nor a runtime.
+/// A value that lends its bytes, for reading and for writing. Its calls receive neither an allocator nor a runtime.
 pub trait Lent {
     /// The bytes of a value.
     ghost bytes_of: { Self → List ℕ };
@@ -16,17 +16,18 @@ pub trait Lent {
     fn bytes(&self) -> &[u8]
         ensures { result.now ≡ bytes_of self.now };
 
-    /// Lends the bytes for writing. Their number stays, and nothing but the bytes changes.
+    /// Lends the bytes for writing. Their number does not change, and nothing but the bytes changes.
     fn bytes_mut(&mut self) -> &mut [u8]
         ensures* writes_back { sem 𝓛 (Lends Self.row (Array byte 0) self.entry result (with_bytes self.old)) }
         ensures value { result.now ≡ bytes_of self.old };
 
-    /// Lends `len` bytes from place `at` on for writing, where they lie inside. Place 0 is the first byte. The other bytes stay.
+    /// Lends `len` bytes from index `at` for writing. The range must lie inside the bytes. The other bytes do not
+    /// change.
     fn range_mut(&mut self, at: usize, len: usize) -> &mut [u8]
         requires { at + len ≤ length (bytes_of self.old) }
         ensures* writes_back { sem 𝓛 (Lends Self.row (Array byte 0) self.entry result (λ w. with_bytes self.old (written_at at (bytes_of self.old) w))) }
         ensures value { result.now ≡ take len (drop at (bytes_of self.old)) };
 
-    /// What a loan leaves: the bytes that were written, as many as there were.
+    /// After a loan the value has the bytes that were written, if they are as many as before.
     ghost rewritten: { (s : Self) (w : List ℕ) → length w ≡ length (bytes_of s) → bytes_of (with_bytes s w) ≡ w };
 }

@@ -1,8 +1,9 @@
-//! Bytes that are lent, for rings and for those who write into their records. A `Sheet` is the bytes of one record, `Lent` is what
-//! lends its bytes for reading and writing, and a `Block` is bytes in place.
+//! Byte buffers that lend their bytes, for rings and for those who write into their records. A `Sheet` is the byte
+//! buffer of one record, `Lent` the trait of values that lend their bytes for reading and writing, and `Block` an array
+//! of bytes.
 //!
-//! Proved: a loan leaves what was written in its own range and changes nothing else, which the law in `range_laws` says of a range
-//! alone. Only `Sheet::new` and `Sheet::renew` take memory, for more than 16 bytes.
+//! Proved: a loan leaves what was written in its range and changes nothing else. `a_range_is_written_alone` states that
+//! for ranges alone. Only `Sheet::new` and `Sheet::renew` allocate, and only for more than 16 bytes.
 //!
 //! ```text
 //! let mut sheet = Sheet::new(rt.alloc(), 4)?;

@@ -2,7 +2,8 @@
 
 ghost use Rattle.rb_lend.specs.RangeLaws.{RangesAreAlone};
 
-/// Bytes that are written in the place of as many others show there, and leave what is before and behind them.
+/// States that bytes which overwrite equally many others can be read back from their range, and that the bytes before
+/// and after the range do not change.
 pub fn a_range_is_written_alone()
     ensures { RangesAreAlone }
 {}

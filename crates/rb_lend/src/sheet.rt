@@ -1,4 +1,4 @@
-//! The bytes of one record.
+//! The byte buffer of one record.
 
 ghost use Rattle.std.specs.Prelude.{◌≡◌, ◌⊎◌, ◌<◌, ◌^◌, ℕ, List, [], IfOk, IfErr, IsOk, ◌≤◌, replicate, length, vec_len, false};
 
@@ -8,12 +8,12 @@ use std::alloc::{AllocError, Global};
 use std::marker::Model;
 use std::mem;
 
-// Where the bytes lie.
+// The storage of the bytes.
 #[derive(Drop)]
 enum Bytes {
     InPlace(Short),
     OnHeap(Vec<u8>),
-    // On the heap, made zero and not lent for writing since.
+    // On the heap, set to zero and not lent for writing since then.
     Zeros(Vec<u8>),
 }
 
@@ -21,7 +21,7 @@ impl Bytes {
     ghost use Rattle.rb_lend.specs.inner.Sheet.{sheet_bytes, is_known_zero};
 
     #[inline]
-    // The bytes are going to be written, and so are no longer known to be zeros.
+    // Prepares for writing: the bytes are no longer known to be zero.
     fn expect_writes(&mut self)
         ensures same { sheet_bytes self.new ≡ sheet_bytes self.old }
         ensures unknown { is_known_zero self.new ≡ false }
@@ -35,9 +35,12 @@ impl Bytes {
     }
 }
 
-/// The bytes of one record: at most 4,294,967,295. Up to 16 lie in the sheet itself, and more on the heap. Contracts see it as the
-/// list of its bytes. Only `new` and `renew` take memory, and only for more than 16 bytes. A sheet on the heap knows that it is all
-/// zeros until its bytes are first lent for writing, and `clear` leaves it alone until then.
+/// A sheet: the byte buffer of one record, with at most 4,294,967,295 bytes. Up to 16 bytes are stored inline, more on
+/// the heap.
+///
+/// Contracts see a sheet as the list of its bytes. Only `new` and `renew` allocate, and only for more than 16 bytes. A
+/// sheet on the heap is known to be all zeros until its bytes are first lent for writing, and until then `clear` does
+/// not touch it.
 #[derive(Drop)]
 pub struct Sheet {
     bytes: Bytes,
@@ -57,8 +60,10 @@ impl Model for Sheet {
 
 impl Sheet {
     #[inline]
-    /// A sheet of `n` zero bytes, or `AllocError` where there is no memory for them. Up to 16 bytes it is always there. In time
-    /// linear in `n`.
+    /// Returns a sheet of `n` zero bytes, or `AllocError` if memory for them can't be allocated. Never fails for up to
+    /// 16 bytes.
+    ///
+    /// Takes time linear in `n`.
     pub fn new(alloc: Global, n: u32) -> Result<Sheet, AllocError>
         ensures zeros { IfOk result (λ s. s ≡ replicate n 0) }
         ensures short { n ≤ 16 → IsOk result }
@@ -73,7 +78,7 @@ impl Sheet {
     }
 
     #[inline]
-    /// A sheet without bytes. It takes no memory.
+    /// Returns a sheet without bytes. Does not allocate.
     pub fn empty(alloc: Global) -> Sheet
         ensures empty { result ≡ [] }
     {
@@ -83,8 +88,10 @@ impl Sheet {
         }
     }
 
-    /// The sheet as one of `n` zero bytes. It takes memory only where the sheet never held as many bytes; where that is
-    /// refused, the sheet comes back as it was. In time linear in `n`, and in the old bytes where they are moved.
+    /// Turns the sheet into one of `n` zero bytes. Allocates only if the sheet never held as many bytes; if that fails,
+    /// returns the unchanged sheet with the error.
+    ///
+    /// Takes time linear in `n`, and in the number of old bytes if they are moved.
     pub fn renew(self, n: u32) -> Result<Sheet, (AllocError, Sheet)>
         ensures zeros { IfOk result (λ s. s ≡ replicate n 0) }
         ensures handed_back { IfErr result (λ e. e.1 ≡ self) }
@@ -118,8 +125,10 @@ impl Sheet {
     }
 
     #[inline]
-    /// Makes each byte zero. A sheet on the heap that was not lent for writing since `new`, `renew` or `clear` is left as it is:
-    /// in constant time then, else in time linear in the bytes.
+    /// Sets each byte to zero. A sheet on the heap that was not lent for writing since `new`, `renew` or `clear` is not
+    /// touched.
+    ///
+    /// Takes constant time in that case, and otherwise time linear in the number of bytes.
     pub fn clear(&mut self)
         ensures zeros { self.new ≡ replicate (length self.old) 0 }
     {
@@ -131,8 +140,10 @@ impl Sheet {
     }
 
     #[inline]
-    /// Hands the bytes out, in a sheet of their own. Bytes in place are copied and stay behind, which is faster than to clear them; a sheet on the
-    /// heap is left without bytes. In constant time, and without memory.
+    /// Returns the bytes in a new sheet. Inline bytes are copied and also remain in this sheet, which is faster than
+    /// clearing them; a sheet on the heap is left empty.
+    ///
+    /// Takes constant time and does not allocate.
     pub fn hand_out(&mut self) -> Sheet
         ensures value { result ≡ self.old }
         ensures left { (self.new ≡ self.old) ⊎ (self.new ≡ []) }
@@ -147,7 +158,7 @@ impl Sheet {
     }
 
     #[inline]
-    /// How many bytes the sheet has.
+    /// Returns the number of bytes of the sheet.
     pub fn len(&self) -> u32
         ensures { result ≡ length self.now }
     {
@@ -158,7 +169,7 @@ impl Sheet {
     }
 }
 
-// The vector with `n` zeros in place of its bytes, or as it was.
+// Returns the vector with `n` zeros instead of its bytes, or unchanged if memory can't be allocated.
 fn cleared(heap: Vec<u8>, n: usize) -> Result<Vec<u8>, (AllocError, Vec<u8>)>
     ensures zeros { IfOk result (λ v. v.items ≡ replicate n 0) }
     ensures handed_back { IfErr result (λ e. e.1.items ≡ heap.items) }

@@ -1,4 +1,4 @@
-//! A few bytes in place.
+//! A few bytes, stored inline.
 
 ghost use Rattle.std.specs.Prelude.{◌≡◌, ◌≤◌, ◌+◌, replicate, length, take, drop};
 ghost use Rattle.std.specs.Borrow.{sem};
@@ -6,10 +6,10 @@ ghost use Rattle.std.specs.Borrow.{sem};
 use crate::block::Block;
 use std::marker::Model;
 
-/// How many bytes fit in place.
+/// The number of bytes that are stored inline.
 pub(crate) const CAPACITY: usize = 16;
 
-/// At most 16 bytes, in place. Contracts see the list of them.
+/// At most 16 bytes, stored inline. Contracts see the list of them.
 #[derive(Drop)]
 pub(crate) struct Short {
     block: Block<CAPACITY>,
@@ -30,7 +30,7 @@ impl Short {
     ghost use Rattle.rb_lend.specs.inner.Short.{LendsShort, LendsShortRange};
 
     #[inline]
-    /// So many zero bytes.
+    /// Returns `len` zero bytes.
     pub(crate) fn zeros(len: usize) -> Short
         requires { len ≤ 16 }
         ensures { result ≡ replicate len 0 }
@@ -44,7 +44,7 @@ impl Short {
     }
 
     #[inline]
-    /// The same bytes once more. In constant time.
+    /// Returns a copy of the bytes. Takes constant time.
     pub(crate) fn copied(&self) -> Short
         ensures { result ≡ self.now }
     {
@@ -57,7 +57,7 @@ impl Short {
     }
 
     #[inline]
-    /// Makes each byte zero. In constant time.
+    /// Sets each byte to zero. Takes constant time.
     pub(crate) fn clear(&mut self)
         ensures { self.new ≡ replicate (length self.old) 0 }
     {
@@ -65,7 +65,7 @@ impl Short {
     }
 
     #[inline]
-    /// How many bytes there are.
+    /// Returns the number of bytes.
     pub(crate) fn len(&self) -> usize
         ensures { result ≡ length self.now }
     {
@@ -92,7 +92,8 @@ impl Short {
     }
 
     #[inline]
-    /// Lends `len` bytes from place `at` on for writing, where they lie inside. The other bytes stay.
+    /// Lends `len` bytes from index `at` for writing. The range must lie inside the bytes. The other bytes do not
+    /// change.
     pub(crate) fn range_mut(&mut self, at: usize, len: usize) -> &mut [u8]
         requires { at + len ≤ length self.old }
         ensures* writes_back { sem 𝓛 (LendsShortRange self.entry at result) }

@@ -33,7 +33,7 @@ pub space_behind : (text : List ℕ) (c : ℕ) → is_ascii_whitespace c ≡ tru
 space_behind text c h =
     filter-append (λ c. not (is_ascii_whitespace c)) text (c ∷ []) ∙ (ap (λ l. without_white_space text ++ l) (left_out c [] h) ∙ append-nil (without_white_space text))
 
--- ---- an odd byte
+-- ---- a byte that is neither a digit nor white space
 
 odd_parts : (space digit : Bool) → not (space || digit) ≡ true → (space ≡ false) × (digit ≡ false)
 odd_parts true digit h = absurd cc
@@ -54,7 +54,7 @@ rest_all c rest false space all =
     let there : list_all is_ascii_hexdigit (c ∷ without_white_space rest) ≡ true = sym (ap (list_all is_ascii_hexdigit) (kept c rest space)) ∙ all in
     (and_parts (is_ascii_hexdigit c) (list_all is_ascii_hexdigit (without_white_space rest)) there).1
 
--- a text with an odd byte is not all digits and white space
+-- a text with such a byte is not all digits and white space
 odd_cases : (c : ℕ) (text rest : List ℕ) (odd : Bool) → is_odd c ≡ odd → (odd || has_odd text) ≡ true → (has_odd text ≡ true → list_all is_ascii_hexdigit (without_white_space (text ++ rest)) ≡ true → ⊥)
     → list_all is_ascii_hexdigit (without_white_space (c ∷ (text ++ rest))) ≡ true → ⊥
 odd_cases c text rest true is any later all = odd_one c (text ++ rest) is all

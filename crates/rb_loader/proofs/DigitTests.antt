@@ -68,7 +68,7 @@ space_bound c h =
       | inr h ↦ let r = within 32 32 c h in omega arith
     ]
 
--- a digit is no white space, and is ASCII
+-- a digit is not white space, and is ASCII
 pub digit_no_space : (c : ℕ) → is_ascii_hexdigit c ≡ true → is_ascii_whitespace c ≡ false
 digit_no_space c h = not_true (is_ascii_whitespace c) (λ s. let b = digit_bounds c h in let l = space_bound c s in absurd (omega arith))
 

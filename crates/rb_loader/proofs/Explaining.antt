@@ -1,4 +1,4 @@
--- What was explained of a text that was read was explained of the input.
+-- An explanation of the text that was read is one of the input.
 use Rattle.std.proofs.Common.{◌≡◌, ℕ, List, Option, Some, None, refl, sym, subst}
 use Rattle.std.specs.Io.KnownBytes.{Appends}
 use Rattle.rb_program.specs.declared.shape_fault.ShapeFaultKind.{ShapeFaultKind}
@@ -14,7 +14,7 @@ use Rattle.rb_loader.specs.Explained.{ExplainsRefusal, PrintsExplanation, fault_
 use Rattle.rb_loader.specs.declared.program.ProgramFault.{ProgramFault}
 
 module _ (form : LineForm) (text : List ℕ) (ctx_len rings : ℕ) where
-  -- a text that is explained as one of an accepted program is accepted
+  -- a text that is explained as an accepted program is accepted
   pub accepted_of : (reason : Option Reason) (told : List ℕ) → reason ≡ None → ExplainsAs form text (record { ctx_len = ctx_len; rings = rings }) reason told
       → (subject : Subject) × IsAccepted text ctx_len rings subject
   accepted_of reason told none explained =
@@ -24,7 +24,7 @@ module _ (form : LineForm) (text : List ℕ) (ctx_len rings : ℕ) where
       )
 
   module _ (before after : Option (List ℕ)) where
-    -- the explanation of a fault of a shape was printed; there is none of want of memory
+    -- the explanation of a shape fault was printed; a failed allocation has none
     shape_refusal : (unit : ℕ) (kind : ShapeFaultKind) → PrintsExplanation form text ctx_len rings (Some (Shape (record { unit = unit; kind = kind }))) before after
         → ExplainsRefusal form text ctx_len rings before after (shape_fault_at kind unit)
     shape_refusal unit Memory printed = absurd printed.explained.2.2.here.stands
@@ -34,7 +34,7 @@ module _ (form : LineForm) (text : List ℕ) (ctx_len rings : ℕ) where
     shape_refusal unit FallsOff printed = record { reason = Shape (record { unit = unit; kind = FallsOff }); fault_is = refl; printed = printed }
     shape_refusal unit Unreachable printed = record { reason = Shape (record { unit = unit; kind = Unreachable }); fault_is = refl; printed = printed }
 
-    -- so was that of any reason
+    -- the same for any reason
     refusal : (reason : Reason) → PrintsExplanation form text ctx_len rings (Some reason) before after → ExplainsRefusal form text ctx_len rings before after (fault_of_reason reason)
     refusal Text printed = record { reason = Text; fault_is = refl; printed = printed }
     refusal (Decode fault) printed = record { reason = Decode fault; fault_is = refl; printed = printed }

@@ -1,4 +1,5 @@
--- The digits that are kept of a text stand for it, and so does a text that is no hex for one with an odd byte.
+-- The digits that are kept of a text stand for it, and a text that is not hex stands for one with a byte that is
+-- neither a digit nor white space.
 use Rattle.std.proofs.Common.{◌≡◌, ℕ, ◌+◌, ◌*◌, ◌%◌, ◌<◌, ◌≤◌, ◌⊎◌, inl, inr, Bool, true, false, List, [], ◌∷◌, ◌++◌, length, codes, Option, Some, None, append-nil, append_assoc, refl, sym, ap, subst, ◌∙◌, arith}
 use Rattle.std.specs.Prelude.{IfSome}
 use Rattle.std.specs.Io.KnownBytes.{Consumes, IsAtEnd}
@@ -15,7 +16,7 @@ module _ (text kept : List ℕ) (keeps : KeepsOf text kept) (digits : list_all i
   stays : without_white_space kept ≡ kept
   stays = digits_stay kept digits
 
-  -- many digits are bytes on both sides or on none
+  -- if there are too many digits, both lists encode bytes or neither does
   many_hex : AreManyDigits (without_white_space text) kept → (bytes : List ℕ) → IsHexOf kept bytes → SpellsLike text bytes
   many_hex many bytes h =
       let n = hex_length kept bytes h in
@@ -33,7 +34,7 @@ module _ (text kept : List ℕ) (keeps : KeepsOf text kept) (digits : list_all i
       let own = digits_hex kept digits (omega (arith, m, e)) in
       none own.0 (subst (λ l. IsHexOf l own.0) (sym stays) own.1)
 
-  -- all that was read
+  -- the digits stand for everything that was read
   pub kept_stands : StandsFor text kept
   kept_stands = record {
     no_hex = λ none. elim keeps.kept_are [
@@ -45,7 +46,7 @@ module _ (text kept : List ℕ) (keeps : KeepsOf text kept) (digits : list_all i
         elim keeps.kept_are [ inl same ↦ inl (subst (λ l. IsHexOf l bytes) same digits_of) | inr many ↦ many_hex many bytes digits_of ];
   }
 
--- ---- an odd byte
+-- ---- a byte that is neither a digit nor white space
 
 no_digits : list_all is_ascii_hexdigit (without_white_space (codes "no hex")) ≡ true → ⊥
 no_digits all = absurd cc
@@ -56,17 +57,17 @@ odd_stands before piece rest odd = record {
   hex = λ bytes h. absurd (no_digits (hex_digits (without_white_space (codes "no hex")) bytes h));
 }
 
--- ---- what was read of an input
+-- ---- reading an input
 
 module _ (a b : Option (List ℕ)) (read piece : List ℕ) (text : List ℕ) where
-  -- all of it
+  -- the whole input
   pub whole_input : (digits : List ℕ) → Consumes a b (read ++ piece) → piece ≡ [] → IsAtEnd b → KeepsOf read digits → list_all is_ascii_hexdigit digits ≡ true → text ≡ digits
       → IfSome a (λ unread. StandsFor unread text)
   whole_input digits consumed none end keeps all same =
       let given : Consumes a b read = subst (Consumes a b) (ap (λ l. read ++ l) none ∙ append-nil read) consumed in
       Consumes-whole a b read (λ unread. StandsFor unread text) given end (subst (StandsFor read) (sym same) (kept_stands read digits keeps all))
 
--- up to a piece with an odd byte
+-- up to a piece with a byte that is neither a digit nor white space
 pub odd_input : (a b : Option (List ℕ)) (read piece text : List ℕ) → Consumes a b (read ++ piece) → has_odd piece ≡ true → text ≡ codes "no hex" → IfSome a (λ unread. StandsFor unread text)
 odd_input None b read piece text consumed odd same = tt
 odd_input (Some unread) None read piece text consumed odd same = absurd consumed

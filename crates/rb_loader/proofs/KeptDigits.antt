@@ -28,7 +28,7 @@ short_digits : (kept : List ℕ) (full : Bool) → (length kept == 65568) ≡ fu
 short_digits kept true is all few = (front_digits 65552 kept all, let t = length-take 65552 kept in omega (arith, t))
 short_digits kept false is all few = (all, let n = eqb-false (length kept) 65568 is in omega (arith, n))
 
--- the digits that are kept once one more came
+-- the digits that are kept after one more arrives
 kept_on : (kept : List ℕ) → list_all is_ascii_hexdigit kept ≡ true → length kept ≤ 65568
     → (list_all is_ascii_hexdigit (shortened kept) ≡ true) × (length (shortened kept) ≤ 65567)
 kept_on kept all few = short_digits kept (length kept == 65568) refl all few
@@ -46,7 +46,7 @@ kept_one_more kept c digit all few =
     let n = length-append (shortened kept) (c ∷ []) in
     (list_all-append is_ascii_hexdigit (shortened kept) (c ∷ []) ∙ rw (a, digit) refl, omega (arith, n, l))
 
--- ---- what they are kept of
+-- ---- the text that they are kept of
 
 pub keeps_none : KeepsOf [] []
 keeps_none = record { are_digits = refl; kept_are = inl refl }
@@ -59,7 +59,7 @@ keeps_space text kept c space keeps =
       kept_are = subst (λ l. (kept ≡ l) ⊎ AreManyDigits l kept) same keeps.kept_are;
     }
 
--- one digit more, by whether a unit goes first
+-- one more digit, whether or not a unit is dropped first
 module _ (all kept : List ℕ) (c : ℕ) where
   grown : (kept ≡ all) ⊎ AreManyDigits all kept → (kept ++ c ∷ [] ≡ all ++ c ∷ []) ⊎ AreManyDigits (all ++ c ∷ []) (kept ++ c ∷ [])
   grown (inl same) = inl (ap (λ l. l ++ c ∷ []) same)

@@ -1,4 +1,4 @@
--- The fault of a text is the first one of its layer.
+-- The fault that is returned for a text is the first one of its layer.
 use Rattle.std.proofs.Common.{◌≡◌, ◌⊎◌, ℕ, List, Result, Err, sym, ap, subst, inl, inr}
 use Rattle.rb_insn.specs.declared.insn.Insn.{Insn}
 use Rattle.rb_insn.specs.Spelling.{SpellsAll}

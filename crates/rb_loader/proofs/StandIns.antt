@@ -1,4 +1,4 @@
--- What is right for a text that stands for an input is right for the input.
+-- A result that is right for a text is right for the input that it stands for.
 use Rattle.std.proofs.Common.{◌≡◌, ◌⊎◌, ℕ, ◌*◌, ◌%◌, ◌<◌, List, [], length, Option, Some, None, Result, Ok, Err, refl, sym, ap, subst, ◌∙◌, arith, inl, inr}
 use Rattle.std.specs.Prelude.{IfErr, IfOk, IfSome}
 use Rattle.rb_insn.specs.declared.insn.Insn.{Insn}
@@ -58,10 +58,10 @@ module _ (own bytes : List ℕ) (long : AreTooLong own bytes) where
   shown_moves form told unit kinds.UnusedField fault shows = absurd (fault.2 long.second)
   shown_moves form told unit kinds.HalfWide fault shows = absurd (fault.2 long.second)
 
--- ---- what is answered of a text
+-- ---- the result for a text
 
 module _ (input text : List ℕ) (stands : StandsFor input text) where
-  -- bytes that spell a program are not too long
+  -- bytes that encode a program are not too long
   program_hex : (program : List Insn) (bytes : List ℕ) → IsHexOf (without_white_space text) bytes → SpellsAll program bytes → IsProgram program
       → IsHexOf (without_white_space input) bytes
   program_hex program bytes hex spelled bounds =
@@ -132,7 +132,7 @@ module _ (input text : List ℕ) (stands : StandsFor input text) where
     told_is = e.told_is;
   }
 
--- ---- the same of an input, where it is known
+-- ---- the same for an input, if it is known
 
 module _ (input : Option (List ℕ)) (text given : List ℕ) (same : given ≡ text) (stands : IfSome input (λ unread. StandsFor unread text)) (ctx_len rings : ℕ) where
   pub program_for_input : (answer : Result Subject ProgramFault) → IfOk answer (IsAccepted given ctx_len rings) → IfOk answer (λ program. IfSome input (λ unread. IsAccepted unread ctx_len rings program))

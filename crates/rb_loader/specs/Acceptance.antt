@@ -1,4 +1,5 @@
--- When the text of a program is accepted, and else what it is refused for: the first fault of the first layer that has one (own).
+-- When the text of a program is accepted, and otherwise why it is refused: the first fault of the first layer that has
+-- one (own).
 use Rattle.std.specs.Prelude.{◌≡◌, ℕ, List}
 use Rattle.rb_insn.specs.declared.insn.Insn.{Insn}
 use Rattle.rb_insn.specs.Spelling.{SpellsAll}
@@ -21,8 +22,8 @@ use Rattle.rb_explain.specs.Explanations.{IsNoHex}
 use Rattle.rb_loader.specs.declared.program.ProgramFault.{ProgramFault}
 use Rattle.rb_loader.specs.declared.program.ProgramFault.TheVariants.{Text, Decode, Shape, Verify, Memory, Device}
 
--- the text is the program's bytes in hex, with white space anywhere; the program is well shaped, and has a valid annotation for a
--- context of this length and so many rings
+-- the text is the hex encoding of the program, with white space anywhere; the program is well shaped, and has a valid
+-- annotation for a context of `ctx_len` bytes and for `rings` rings
 pub record IsAccepted (text : List ℕ) (ctx_len rings : ℕ) (subject : Subject) : Type 0 where
   pub bytes : List ℕ
   pub hex : IsHexOf (without_white_space text) bytes
@@ -33,13 +34,13 @@ pub record IsAccepted (text : List ℕ) (ctx_len rings : ℕ) (subject : Subject
   pub known : subject.rings ≡ rings
   pub valid : HasValid (limits_of subject) subject.program
 
--- the text is bytes in hex, and this is their first fault
+-- the text is the hex encoding of bytes, and this is their first fault
 pub record HasFirstDecodeFault (text : List ℕ) (kind : DecodeKind) (unit : ℕ) : Type 0 where
   pub bytes : List ℕ
   pub hex : IsHexOf (without_white_space text) bytes
   pub first : IsFirstDecodeFault bytes (record { unit = unit; kind = kind })
 
--- the text is a program's bytes in hex, and this is the first fault of its shape
+-- the text is the hex encoding of a program, and this is the first fault of its shape
 pub record HasFirstShapeFault (text : List ℕ) (kind : ShapeFaultKind) (unit : ℕ) : Type 0 where
   pub program : List Insn
   pub bytes : List ℕ
@@ -48,8 +49,8 @@ pub record HasFirstShapeFault (text : List ℕ) (kind : ShapeFaultKind) (unit : 
   pub bounds : IsProgram program
   pub first : IsFirstShapeFault program (record { unit = unit; kind = kind })
 
--- the text is a well-shaped program's bytes in hex, which no annotation fits for such a context and so many rings; and the rule of this
--- number is the first that it breaks
+-- the text is the hex encoding of a well-shaped program, which has no valid annotation for such a context and so many
+-- rings; the rule with this number is the first that it breaks
 pub record HasFirstBrokenRule (text : List ℕ) (ctx_len rings number unit : ℕ) : Type 0 where
   pub program : List Insn
   pub bytes : List ℕ
@@ -62,7 +63,8 @@ pub record HasFirstBrokenRule (text : List ℕ) (ctx_len rings number unit : ℕ
   pub first : IsFirstBrokenRule (record { ctx_len = ctx_len; rings = rings }) program unit rule
   pub number_is : number ≡ rule_number rule
 
--- the fault is that of the text, for such a context and so many rings; out of memory and a failed device say nothing of the text
+-- the fault is that of the text, for such a context and so many rings; a failed allocation and a failed device say
+-- nothing about the text
 abbrev pub IsRightFault : List ℕ → ℕ → ℕ → ProgramFault → Type 0
 IsRightFault text ctx_len rings Text = IsNoHex text
 IsRightFault text ctx_len rings (Decode kind unit) = HasFirstDecodeFault text kind unit

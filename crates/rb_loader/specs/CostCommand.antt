@@ -1,4 +1,4 @@
--- What `cost` prints of a program's text (own).
+-- The output of `cost` for a program's text (own).
 use Rattle.std.specs.Prelude.{ℕ, List, Option}
 use Rattle.std.specs.Io.KnownBytes.{Appends}
 use Rattle.rb_cost.specs.declared.cost.Cost.{Cost}
@@ -9,7 +9,7 @@ use Rattle.rb_json.specs.declared.form.LineForm.{LineForm}
 use Rattle.rb_verifier.specs.Subject.{Subject}
 use Rattle.rb_loader.specs.Acceptance.{IsAccepted}
 
--- the program that the input spells is accepted, and the lines of its cost were printed, and nothing else
+-- the program that the input encodes is accepted, and exactly the lines of its cost were printed
 pub record PrintsCost (form : LineForm) (jobs : Option JobsAtOnce) (input : List ℕ) (ctx_len rings : ℕ) (before after : Option (List ℕ)) : Type 0 where
   pub subject : Subject
   pub accepted : IsAccepted input ctx_len rings subject

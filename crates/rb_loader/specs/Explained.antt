@@ -1,4 +1,4 @@
--- What `explain` prints of a program's text, and what it answers (own).
+-- The output of `explain` for a program's text, and its result (own).
 use Rattle.std.specs.Prelude.{◌≡◌, ℕ, List, Option, Some}
 use Rattle.std.specs.Io.KnownBytes.{Appends, Keeps}
 use Rattle.rb_explain.specs.Explanations.{ExplainsAs}
@@ -10,14 +10,15 @@ use Rattle.rb_loader.specs.Acceptance.{fault_of_shape}
 use Rattle.rb_loader.specs.declared.program.ProgramFault.{ProgramFault}
 use Rattle.rb_loader.specs.declared.program.ProgramFault.TheVariants.{Text, Decode, Verify, Memory, Device}
 
--- why a program is refused, as a fault of a program
+-- the reason for a refusal, as a fault of a program
 abbrev pub fault_of_reason : Reason → ProgramFault
 fault_of_reason reasons.Text = Text
 fault_of_reason (reasons.Decode fault) = Decode fault.kind fault.unit
 fault_of_reason (reasons.Shape fault) = fault_of_shape fault
 fault_of_reason (reasons.Rule unit rule) = Verify (rule_number rule) unit
 
--- the text was explained: as one of an accepted program, or of one that is refused for this; and the explanation was printed, and nothing else
+-- exactly the explanation of the text was printed: that of an accepted program, or of one that is refused for this
+-- reason
 pub record PrintsExplanation (form : LineForm) (text : List ℕ) (ctx_len rings : ℕ) (reason : Option Reason) (before after : Option (List ℕ)) : Type 0 where
   pub told : List ℕ
   pub explained : ExplainsAs form text (record { ctx_len = ctx_len; rings = rings }) reason told
@@ -29,7 +30,8 @@ pub record ExplainsFault (form : LineForm) (text : List ℕ) (ctx_len rings : �
   pub fault_is : fault ≡ fault_of_reason reason
   pub printed : PrintsExplanation form text ctx_len rings (Some reason) before after
 
--- what was printed of an input that is refused so: nothing if memory ran out, and the explanation if the device did not fail
+-- what was printed for an input that is refused with this fault: nothing if an allocation failed, and the explanation
+-- if the device did not fail
 abbrev pub ExplainsRefusal : LineForm → List ℕ → ℕ → ℕ → Option (List ℕ) → Option (List ℕ) → ProgramFault → Type 0
 ExplainsRefusal form input ctx_len rings before after Memory = Keeps before after
 ExplainsRefusal form input ctx_len rings before after Device = Unit {0}

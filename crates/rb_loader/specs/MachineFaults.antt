@@ -1,4 +1,4 @@
--- Faults that say nothing of a program: out of memory, and a read or a write that failed (own).
+-- Faults that say nothing about a program: a failed allocation, and a failed read or write (own).
 use Rattle.std.specs.Prelude.{◌≡◌, ◌⊎◌}
 use Rattle.rb_loader.specs.declared.program.ProgramFault.{ProgramFault}
 use Rattle.rb_loader.specs.declared.program.ProgramFault.TheVariants.{Memory, Device}

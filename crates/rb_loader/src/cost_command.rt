@@ -1,4 +1,4 @@
-//! What a program can cost at most, from its text.
+//! The command `cost`: the most that a program can cost, from its text.
 
 ghost use Rattle.std.specs.Prelude.{◌≡◌, ◌≢◌, IfErr, IfSome, OnOk};
 ghost use Rattle.std.specs.Io.KnownBytes.{Keeps};
@@ -13,9 +13,12 @@ use rb_json::LineForm;
 use std::alloc::Global;
 use std::io::{Read, Write};
 
-/// Verifies the program whose text is the input, and prints what it can cost at most: `accepted`, its steps and calls, and for each ring the records and bytes
-/// that it asks for and the bytes that it holds, in this form; where jobs are given, also the smallest ring of more bytes than those jobs ask for together.
-/// The text is read as `read_text` does. Nothing is run, and nothing is printed where the program is refused or memory runs out.
+/// Verifies the program whose text is the input, and prints the most that it can cost.
+///
+/// Prints `accepted`, the numbers of steps and calls, and for each ring the records and bytes that it requests and the
+/// bytes that it holds, in the given form. If `jobs` is given, it also prints the smallest ring with more bytes than
+/// those jobs request together. The text is read by `read_text`. Runs nothing, and prints nothing if the program is
+/// refused or an allocation fails.
 pub fn cost<R: Read, W: Write>(
     alloc: Global,
     input: &mut R,

@@ -8,14 +8,17 @@ ghost use Rattle.rb_loader.specs.inner.Digits.{KeepsOf, has_odd, one_more, short
 use std::alloc::{AllocError, Global};
 use std::marker::Model;
 
-// How many digits are kept: those of a program and of two units more, of which the last is given up once it is whole.
+// The most digits that are kept: those of a program and of two more units, the last of which is dropped once it is
+// complete.
 const MOST: usize = 65_568;
 
-// How many stay then.
+// How many digits are left then.
 const STAY: usize = 65_552;
 
-/// The hex digits of a text that was read in pieces. Of a text that is too long for a program it keeps fewer, but more than a program has and
-/// as many more than a whole number of units.
+/// The hex digits of a text that is read in pieces.
+///
+/// For a text that is too long for a program, it keeps fewer digits: still more than a program has, and the same number
+/// modulo the digits of a unit.
 #[derive(Drop)]
 pub(crate) struct Digits {
     kept: Vec<u8>,
@@ -34,7 +37,7 @@ impl Model for Digits {
 }
 
 impl Digits {
-    /// No digits.
+    /// Creates an empty list of digits.
     pub(crate) fn new(alloc: Global) -> Digits
         ensures none { result ≡ [] }
     {
@@ -43,7 +46,7 @@ impl Digits {
         }
     }
 
-    // Adds a digit.
+    // Appends a digit.
     fn push(&mut self, digit: u8) -> Result<(), AllocError>
         requires digit { is_ascii_hexdigit digit ≡ true }
         ensures more { IfOk result (λ _. self.new ≡ one_more self.old digit) }
@@ -53,7 +56,8 @@ impl Digits {
         Ok(())
     }
 
-    /// Adds the digits of a piece, up to the first byte that is neither a digit nor white space. Returns whether there is none.
+    /// Appends the digits of a piece, up to the first byte that is neither a digit nor white space. Returns whether
+    /// there is no such byte.
     pub(crate) fn add(&mut self, piece: &[u8]) -> Result<bool, AllocError>
         ensures kept { IfOk result (λ all. all ≡ true → (text : List ℕ) → KeepsOf text self.old → KeepsOf (text ++ piece.now) self.new) }
         ensures odd { IfOk result (λ all. all ≡ false → has_odd piece.now ≡ true) }
@@ -70,7 +74,7 @@ impl Digits {
         Ok(true)
     }
 
-    /// The digits as text.
+    /// Returns the digits as text.
     pub(crate) fn into_text(self) -> String
         ensures text { string_bytes result ≡ self }
         ensures digits { list_all is_ascii_hexdigit self ≡ true }
@@ -82,7 +86,7 @@ impl Digits {
     }
 }
 
-// Gives up the last unit's digits once there are as many as are kept.
+// Drops the digits of the last unit once the list is full.
 fn shorten(kept: &mut Vec<u8>)
     ensures { kept.new.items ≡ shortened kept.old.items }
 {

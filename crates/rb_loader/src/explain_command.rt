@@ -1,4 +1,4 @@
-//! The explanation of a program's text.
+//! The command `explain`: the explanation of a program, from its text.
 
 ghost use Rattle.std.specs.Prelude.{◌≡◌, None, IfErr, IfSome, OnOk};
 ghost use Rattle.rb_verifier.specs.Subject.{Subject};
@@ -14,9 +14,12 @@ use rb_program::DecodeFault;
 use std::alloc::Global;
 use std::io::{Read, Write};
 
-/// Explains the program whose text is the input: of an accepted one each instruction with what the verifier knows before it, and then what the program can
-/// cost at most, as `cost` prints it; of a refused one the units around its first fault, and how programs mend it; in words or as objects of JSON. The
-/// explanation is printed before a refusal is answered. The text is read as `read_text` does.
+/// Explains the program whose text is the input.
+///
+/// For an accepted program, prints each instruction with what the verifier knows before it, followed by the most that
+/// the program can cost, as printed by `cost`. For a refused one, prints the units around its first fault, and how to
+/// fix the program. The form is words or JSON objects. A refusal is returned only after its explanation is printed. The
+/// text is read by `read_text`.
 pub fn explain<R: Read, W: Write>(
     alloc: Global,
     input: &mut R,
@@ -43,7 +46,7 @@ pub fn explain<R: Read, W: Write>(
     }
 }
 
-/// Why a program is refused, as a fault of a program.
+/// Returns the reason for a refusal as a `ProgramFault`.
 pub(crate) fn fault_of(reason: Reason) -> ProgramFault
     ensures { result ≡ fault_of_reason reason }
 {

@@ -9,16 +9,17 @@ use crate::program::ProgramFault;
 use std::alloc::Global;
 use std::io::{ErrorKind, Read};
 
-// How many bytes are read at once.
+// How many bytes are read at a time.
 const PIECE: usize = 4096;
 
-// A text that is no pairs of hex digits.
+// A text that is not pairs of hex digits.
 const NO_HEX: &str = "no hex";
 
-/// Reads a program's text: up to the end of the input, or up to a piece with a byte that is neither a hex digit nor ASCII white space. Returns a
-/// text that stands for all of the input: what `accept` and `explain` answer of the one is right for the other.
+/// Reads a program's text, up to the end of the input or up to a piece with a byte that is neither a hex digit nor
+/// ASCII white space.
 ///
-/// It takes memory for 65,568 digits at most, however long the input is.
+/// Returns a text that stands for the whole input: the results of `accept` and `explain` for the one are right for the
+/// other. Stores at most 65,568 digits, for an input of any length.
 pub fn read_text<R: Read>(alloc: Global, input: &mut R) -> Result<String, ProgramFault>
     ensures stands { IfOk result (λ text. IfSome (R.remaining input.old) (λ unread. StandsFor unread (string_bytes text))) }
     ensures fault { IfErr result IsMachineFault }

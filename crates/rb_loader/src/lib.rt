@@ -1,8 +1,10 @@
-//! Programs from their text: decoded, shaped and verified (RFC 9669), or refused with the first fault; the command `explain`, which
-//! prints why; and the command `cost`, which prints what an accepted program can cost at most.
+//! Loads programs from text: decodes, shapes and verifies them (RFC 9669), or refuses them with the first fault. Also
+//! has the command `explain`, which prints the reason, and the command `cost`, which prints the most that an accepted
+//! program can cost.
 //!
-//! For the commands that take a program. What is promised: a text is accepted exactly where it is a program's bytes in hex that has a
-//! valid annotation, but for want of memory, and a refusal names the first fault of the first layer that has one.
+//! For the commands that take a program. It is proved that a text is accepted if and only if it is the hex encoding of
+//! a program that has a valid annotation, unless an allocation fails, and that a refusal names the first fault of the
+//! first layer that has one.
 #![tactic(auto)]
 
 mod cost_command;

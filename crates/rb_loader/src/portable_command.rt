@@ -1,4 +1,4 @@
-//! The explanation of a program's text, with the units at which Linux refuses it.
+//! The command `explain --portable`: the explanation of a program, with the units at which Linux refuses it.
 
 ghost use Rattle.std.specs.Prelude.{◌≡◌, None, IfErr, IfOk, IfSome, OnOk, string_bytes};
 ghost use Rattle.rb_loader.specs.Explained.{ExplainsRefusal};
@@ -14,7 +14,8 @@ use rb_portable::findings_text;
 use std::alloc::{AllocError, Global};
 use std::io::{Read, Write};
 
-/// Explains the program whose text is the input, as `explain` does, and behind that of an accepted one prints a line for each unit at which Linux refuses it.
+/// Explains the program whose text is the input, like `explain`. For an accepted program, it then prints a line for
+/// each unit at which Linux refuses the program.
 pub fn explain_portable<R: Read, W: Write>(
     alloc: Global,
     input: &mut R,
@@ -39,7 +40,8 @@ pub fn explain_portable<R: Read, W: Write>(
     }
 }
 
-// The explanation of a text, behind that of an accepted program the lines of its units that Linux refuses.
+// Returns the explanation of a text; for an accepted program, it is followed by the lines of the units that Linux
+// refuses.
 fn explanation_of(
     alloc: Global,
     text: &str,
@@ -50,7 +52,7 @@ fn explanation_of(
 {
     let mut explanation = rb_explain::explain(alloc, text, bounds.ctx_len, bounds.rings, form)?;
     if explanation.reason.is_none() {
-        // What is explained as accepted is refused for want of memory alone.
+        // A program that was explained as accepted is refused only if an allocation fails.
         let Ok(verified) = accept(alloc, text, bounds) else {
             return Err(AllocError);
         };

@@ -1,4 +1,4 @@
-//! A verified program from its text.
+//! Verified programs from their text.
 
 ghost use Rattle.std.specs.Prelude.{◌≡◌, ◌≢◌, ◌≤◌, Err, IfErr, IfOk, IfSome};
 ghost use Rattle.rb_loader.specs.Acceptance.{IsAccepted, IsRightFault, fault_of_text, fault_of_shape};
@@ -14,12 +14,12 @@ use std::io;
 use std::io::Read;
 use thiserror::Error;
 
-/// What a program is verified for.
+/// The limits that a program is verified against.
 #[derive(Clone, Copy, Debug, PartialEq, Eq)]
 pub struct Bounds {
     /// The length of the context in bytes, at most 65,536.
     pub ctx_len: u32,
-    /// How many rings the program knows, at most 16.
+    /// How many rings the program may use, at most 16.
     pub rings: u32,
     ghost short: { ctx_len ≤ 65536 },
     ghost few: { rings ≤ 16 },
@@ -28,19 +28,19 @@ pub struct Bounds {
 /// Why a program was not accepted.
 #[derive(Clone, Copy, Debug, PartialEq, Eq, Error)]
 pub enum ProgramFault {
-    /// The input is, without its white space, no pairs of hex digits.
+    /// The input, without its white space, is not pairs of hex digits.
     #[error("text")]
     Text,
-    /// The bytes are no program.
+    /// The bytes are not a program.
     #[error("decode {kind:?} unit {unit}")]
     Decode { kind: DecodeKind, unit: u32 },
     /// The program is not well shaped.
     #[error("shape {kind:?} unit {unit}")]
     Shape { kind: ShapeFaultKind, unit: u32 },
-    /// The program breaks the rule of this number.
+    /// The program breaks the rule with this number.
     #[error("verify V{rule} unit {unit}")]
     Verify { rule: u32, unit: u32 },
-    /// Out of memory.
+    /// An allocation failed.
     #[error("memory")]
     Memory,
     /// A read or a write failed.
@@ -59,8 +59,10 @@ impl From<AllocError> for ProgramFault {
     }
 }
 
-/// The verified program of a text in hex, with ASCII white space anywhere. A fault is the first one of the first layer that has one: the
-/// text, its bytes, the program's shape, its verification. Out of memory may come in place of any other answer.
+/// Returns the verified program of a hex text, with ASCII white space anywhere.
+///
+/// An error is the first fault of the first layer that has one: the text, its bytes, the program's shape, its
+/// verification. A failed allocation may replace any other result.
 pub fn accept(alloc: Global, text: &str, bounds: Bounds) -> Result<Verified, ProgramFault>
     ensures accepted { IfOk result (IsAccepted text.now bounds.ctx_len bounds.rings) }
     ensures refused { IfErr result (IsRightFault text.now bounds.ctx_len bounds.rings) }
@@ -89,7 +91,7 @@ pub fn accept(alloc: Global, text: &str, bounds: Bounds) -> Result<Verified, Pro
     }
 }
 
-/// The verified program whose text is the input, as `accept` says. The text is read as `read_text` does.
+/// Returns the verified program whose text is the input, like `accept`. The text is read by `read_text`.
 pub fn read_program<R: Read>(
     alloc: Global,
     input: &mut R,
@@ -103,7 +105,7 @@ pub fn read_program<R: Read>(
     accept(alloc, text.as_str(), bounds)
 }
 
-/// All bytes of the input.
+/// Returns all bytes of the input.
 pub fn read_all<R: Read>(alloc: Global, input: &mut R) -> Result<Vec<u8>, ProgramFault>
     ensures bytes { IfOk result (λ b. IfSome (R.remaining input.old) (λ unread. b.items ≡ unread)) }
     ensures fault { IfErr result IsMachineFault }
@@ -128,7 +130,7 @@ fn text_fault(fault: TextFault) -> ProgramFault
     }
 }
 
-/// The fault of a shape as one of a program.
+/// Returns a shape fault as a `ProgramFault`.
 pub(crate) fn shape_fault(fault: ShapeFault) -> ProgramFault
     ensures { result ≡ fault_of_shape fault }
 {

@@ -1,4 +1,4 @@
--- Which units of an accepted program Linux refuses, and what is printed of them (own).
+-- At which units Linux refuses an accepted program, and what is printed about them (own).
 use Rattle.std.specs.Prelude.{◌≡◌, ℕ, zero, suc, List, [], ◌∷◌, ◌++◌, codes, Option, Some, None}
 use Rattle.std.specs.Fmt.{decimal}
 use Rattle.std.specs.List.{flat_map}
@@ -22,22 +22,22 @@ abbrev pub found_in : AbsState → ℕ → Option Insn → List Finding
 found_in state unit None = []
 found_in state unit (Some insn) = found_as unit (class_of state insn)
 
--- the finding of the instruction that begins at a unit, by what the annotation knows there
+-- the finding of the instruction that begins at a unit, given the annotation's state there
 abbrev pub found_at : List Insn → Annotation → ℕ → List Finding
 found_at program a unit = found_in (a unit) unit (slot_at program unit)
 
--- the findings of the units below a bound, in their order
+-- the findings of the units below a bound, in unit order
 abbrev pub found_below : List Insn → Annotation → ℕ → List Finding
 found_below program a zero = []
 found_below program a (suc unit) = found_below program a unit ++ found_at program a unit
 
--- the findings of a program, by its least valid annotation
+-- a list is the findings of a program: those by its least valid annotation
 pub record AreFindings (subject : Subject) (found : List Finding) : Type 0 where
   pub states : List AbsState
   pub least : IsLeast (limits_of subject) subject.program (state_at states)
   pub found_is : found ≡ found_below subject.program (state_at states) (unit_count subject.program)
 
--- the line of a finding: in words, or as an object of JSON
+-- the line of a finding: in words, or as a JSON object
 abbrev pub finding_text : LineForm → Finding → List ℕ
 finding_text Words finding = codes "linux " ++ class_name finding.class ++ codes " unit " ++ decimal finding.unit ++ codes "\n"
 finding_text Json finding = codes "{\"linux\":\"" ++ class_name finding.class ++ codes "\",\"unit\":" ++ decimal finding.unit ++ codes "}\n"

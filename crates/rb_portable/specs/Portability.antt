@@ -1,4 +1,5 @@
--- Where Linux refuses an instruction of a program that is accepted here, by what is known in front of it (own; docs/LINUX.md has what Linux says of each).
+-- Where Linux refuses an instruction of a program that is accepted here, given the abstract state before it (own;
+-- docs/LINUX.md has Linux's message for each class).
 use Rattle.std.specs.Prelude.{ℕ, zero, ℤ, ◌+◌, pos, neg_ℤ, ◌+ℤ◌, ◌-ℤ◌, ◌%◌, ◌^◌, ◌==◌, Bool, ◌&&◌, int_le, int_lt, List, codes, Option, Some, None, if◌then◌else◌}
 use Rattle.std.specs.Int.{w64, cast_signed, cast_unsigned}
 use Rattle.rb_insn.specs.declared.insn.Insn.{Insn}
@@ -31,21 +32,21 @@ class_name class.Division = codes "division"
 class_name class.StackSubtraction = codes "stack-subtraction"
 class_name class.PointerFar = codes "pointer-far"
 
--- a class, where the condition does not hold
+-- a class, unless the condition holds
 abbrev pub unless : Bool → LinuxClass → Option LinuxClass
 unless holds found = if holds then None else Some found
 
 -- ---- loads and stores
 
--- what is left of an integer by a size, which is a power of two and divides 2^64
+-- an integer modulo a size that is a power of two and divides 2^64
 abbrev pub residue : ℤ → ℕ → ℕ
 residue offset size = cast_unsigned w64 offset % size
 
--- `by` behind an offset is a multiple of a size
+-- `at + by` is a multiple of `size`
 abbrev pub is_aligned : ℤ → ℤ → ℕ → Bool
 is_aligned at by size = (residue at size + residue by size) % size == 0
 
--- a load or a store of so many bytes, from `by` behind a pointer on
+-- a load or a store of `size` bytes at `pointer + by`
 abbrev pub access_class : Abs → ℤ → ℕ → Option LinuxClass
 access_class (Stack at) by size = unless (is_aligned at by size) class.StackAlignment
 access_class (Ctx (pos zero)) by size = unless (is_aligned (pos 0) by size) class.ContextAlignment
@@ -58,7 +59,7 @@ access_class _ by size = None
 abbrev pub is_close : ℤ → Bool
 is_close offset = int_lt (neg_ℤ (pos (2 ^ 29))) offset && int_lt offset (pos (2 ^ 29))
 
--- a pointer is moved by a distance to an offset
+-- a pointer is moved by a distance, to an offset
 abbrev pub move_class : ℤ → ℤ → Option LinuxClass
 move_class by to = unless (is_close by && is_close to) class.PointerFar
 
@@ -67,19 +68,19 @@ abbrev pub known_distance : Abs → Option ℤ
 known_distance (Known n) = Some (cast_signed w64 n)
 known_distance _ = None
 
--- the number that the second operand is, where it is known
+-- the value of the second operand, if it is known
 abbrev pub distance_of : Operand → AbsState → Option ℤ
 distance_of (Immediate k) s = Some k
 distance_of (Register r) s = known_distance (value_in s r.number)
 
--- 64 bits are added to a register: a pointer is moved by a known number
+-- a 64-bit addition to a register: a pointer is moved by a known number
 abbrev pub add_class : Abs → Option ℤ → Option LinuxClass
 add_class (Ctx at) (Some by) = move_class by (at +ℤ by)
 add_class (Stack at) (Some by) = move_class by (at +ℤ by)
 add_class (Record id at) (Some by) = move_class by (at +ℤ by)
 add_class _ _ = None
 
--- 64 bits are subtracted from a register
+-- a 64-bit subtraction from a register
 abbrev pub sub_class : Abs → Option ℤ → Option LinuxClass
 sub_class (Stack at) by = Some class.StackSubtraction
 sub_class (Ctx at) (Some by) = move_class by (at -ℤ by)
@@ -108,7 +109,7 @@ division_class operand = None
 
 -- ---- calls
 
--- what an output's bytes are, by the register that points to them
+-- an output of bytes, by the register that points to them
 abbrev pub output_class : Abs → Option LinuxClass
 output_class (Ctx at) = Some class.ContextOutput
 output_class (Stack (pos zero)) = Some class.FrameTop
@@ -120,7 +121,7 @@ call_class helper bytes = None
 
 -- ---- an instruction
 
--- why Linux refuses an instruction in front of which this is known
+-- why Linux refuses an instruction in this abstract state
 abbrev pub class_of : AbsState → Insn → Option LinuxClass
 class_of s (Load size dst base offset) = access_class (value_in s base.number) offset (byte_count size)
 class_of s (LoadSigned size dst base offset) = access_class (value_in s base.number) offset (signed_byte_count size)

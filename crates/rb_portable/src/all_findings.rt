@@ -1,4 +1,4 @@
-//! The findings of a program.
+//! All findings of a program.
 
 ghost use Rattle.std.specs.Prelude.{◌≡◌, ◌<◌, ◌++◌, IfOk, OnOk, length, string_bytes};
 ghost use Rattle.std.specs.List.{flat_map};
@@ -13,7 +13,7 @@ use rb_program::Program;
 use rb_verifier::{AbsState, Verified};
 use std::alloc::{AllocError, Global};
 
-// Adds the finding of the instruction that begins at a unit, if it has one.
+// Appends the finding of the instruction at `unit`, if it has one.
 fn find_at(
     found: &mut Vec<Finding>,
     program: &Program,
@@ -32,7 +32,7 @@ fn find_at(
 }
 
 #[tactic(auto, using(crate::proofs::Collecting::finds))]
-// The findings of a program by what is known at its units.
+// Returns the findings of a program, given the abstract states at its units.
 fn findings_of(
     alloc: Global,
     program: &Program,
@@ -48,8 +48,9 @@ fn findings_of(
     Ok(found)
 }
 
-/// Each unit at which Linux refuses a program that is accepted here, and why, in the order of the units. An error is out of memory. The time is linear in the
-/// units.
+/// Returns each unit at which Linux refuses this accepted program, with the reason, in unit order.
+///
+/// The only error is a failed allocation. The time is linear in the number of units.
 pub fn findings(alloc: Global, verified: &Verified) -> Result<Vec<Finding>, AllocError>
     ensures found { IfOk result (λ found. AreFindings verified.now found.items) }
 {
@@ -57,7 +58,7 @@ pub fn findings(alloc: Global, verified: &Verified) -> Result<Vec<Finding>, Allo
 }
 
 #[tactic(auto, using(crate::proofs::Collecting::tells))]
-// The lines of findings.
+// Returns the lines of these findings.
 fn text_of(alloc: Global, form: LineForm, found: &[Finding]) -> Result<String, AllocError>
     ensures text { IfOk result (λ text. string_bytes text ≡ flat_map (finding_text form) found.now) }
 {
@@ -68,7 +69,7 @@ fn text_of(alloc: Global, form: LineForm, found: &[Finding]) -> Result<String, A
     Ok(text)
 }
 
-/// The lines of a program's findings, in words or as objects of JSON.
+/// Returns the lines of a program's findings, in words or as JSON objects.
 pub fn findings_text(
     alloc: Global,
     verified: &Verified,

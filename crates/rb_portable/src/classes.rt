@@ -1,4 +1,4 @@
-//! The class of an instruction, by what is known in front of it.
+//! Finds the reason for which Linux refuses an instruction, given the abstract state before it.
 
 ghost use Rattle.std.specs.Prelude.{◌≡◌, ◌<◌, ◌≤◌, ℕ, ◌+ℤ◌, ◌-ℤ◌};
 ghost use Rattle.rb_verifier.specs.AbstractStates.{value_in};
@@ -8,17 +8,17 @@ use crate::linux_class::LinuxClass;
 use rb_insn::{BinaryOp, Insn, Operand, Reg, Width};
 use rb_verifier::{Abs, AbsState, Helper};
 
-/// The distance from which on Linux moves no pointer (kernel/bpf/verifier.c: BPF_MAX_VAR_OFF).
+/// Linux refuses to move a pointer by this distance or more (kernel/bpf/verifier.c: BPF_MAX_VAR_OFF).
 const FAR: i128 = 1 << 29;
 
-// What is known of a register.
+// Returns the abstract value of a register.
 fn value_of(state: &AbsState, register: Reg) -> Abs
     ensures { result ≡ value_in state.now register.number }
 {
     state.values[register.index()]
 }
 
-// A known number, read as signed.
+// Returns a known number, read as signed.
 fn known_distance(value: Abs) -> Option<i64>
     ensures { result ≡ portability.known_distance value }
 {
@@ -28,7 +28,7 @@ fn known_distance(value: Abs) -> Option<i64>
     }
 }
 
-// The number that the second operand is, where it is known.
+// Returns the value of the second operand, if it is known.
 fn distance_of(operand: Operand, state: &AbsState) -> Option<i64>
     ensures { result ≡ portability.distance_of operand state.now }
 {
@@ -38,14 +38,14 @@ fn distance_of(operand: Operand, state: &AbsState) -> Option<i64>
     }
 }
 
-// A class, where the condition does not hold.
+// Returns `class` unless the condition holds.
 fn unless(holds: bool, class: LinuxClass) -> Option<LinuxClass>
     ensures { result ≡ portability.unless holds class }
 {
     if holds { None } else { Some(class) }
 }
 
-// What is left of an offset by a size.
+// Returns an offset modulo a size.
 fn residue(offset: i64, size: u64) -> u64
     requires { 0 < size }
     ensures value { result ≡ portability.residue offset size }
@@ -54,7 +54,7 @@ fn residue(offset: i64, size: u64) -> u64
     offset.cast_unsigned() % size
 }
 
-// Whether `by` behind an offset is a multiple of a size.
+// Whether `at + by` is a multiple of `size`.
 fn is_aligned(at: i64, by: i64, size: u64) -> bool
     requires positive { 0 < size }
     requires short { size ≤ 8 }
@@ -63,7 +63,7 @@ fn is_aligned(at: i64, by: i64, size: u64) -> bool
     (residue(at, size) + residue(by, size)) % size == 0
 }
 
-// A load or a store of so many bytes, from `by` behind a pointer on.
+// The class of a load or a store of `size` bytes at `pointer + by`.
 fn access_class(pointer: Abs, by: i64, size: u64) -> Option<LinuxClass>
     requires positive { 0 < size }
     requires short { size ≤ 8 }
@@ -84,7 +84,7 @@ fn is_close(offset: i128) -> bool
     -FAR < offset && offset < FAR
 }
 
-// A pointer is moved by a distance to an offset.
+// The class of moving a pointer by `by`, to offset `to`.
 fn move_class(by: i64, to: i128) -> Option<LinuxClass>
     ensures { result ≡ portability.move_class by to }
 {
@@ -92,21 +92,21 @@ fn move_class(by: i64, to: i128) -> Option<LinuxClass>
     unless(is_allowed, LinuxClass::PointerFar)
 }
 
-// The sum of two numbers.
+// Returns the sum of two numbers.
 fn sum(first: i64, second: i64) -> i128
     ensures { result ≡ first +ℤ second }
 {
     i128::from(first) + i128::from(second)
 }
 
-// The difference of two numbers.
+// Returns the difference of two numbers.
 fn difference(first: i64, second: i64) -> i128
     ensures { result ≡ first -ℤ second }
 {
     i128::from(first) - i128::from(second)
 }
 
-// 64 bits are added to a register.
+// The class of a 64-bit addition to a register.
 fn add_class(dst: Abs, by: Option<i64>) -> Option<LinuxClass>
     ensures { result ≡ portability.add_class dst by }
 {
@@ -118,7 +118,7 @@ fn add_class(dst: Abs, by: Option<i64>) -> Option<LinuxClass>
     }
 }
 
-// 64 bits are subtracted from a register.
+// The class of a 64-bit subtraction from a register.
 fn sub_class(dst: Abs, by: Option<i64>) -> Option<LinuxClass>
     ensures { result ≡ portability.sub_class dst by }
 {
@@ -148,7 +148,7 @@ fn shift_class(width: Width, operand: Operand) -> Option<LinuxClass>
     }
 }
 
-// Arithmetic on what is known of two operands.
+// The class of an arithmetic instruction, given the abstract values of its operands.
 fn binary_class(
     width: Width,
     op: BinaryOp,
@@ -177,7 +177,7 @@ fn division_class(operand: Operand) -> Option<LinuxClass>
     }
 }
 
-// An output of bytes that this leads to.
+// The class of an output of the bytes that `bytes` points to.
 fn output_class(bytes: Abs) -> Option<LinuxClass>
     ensures { result ≡ portability.output_class bytes }
 {
@@ -188,7 +188,7 @@ fn output_class(bytes: Abs) -> Option<LinuxClass>
     }
 }
 
-// A call, with what its second argument is.
+// The class of a call, given the abstract value of its second argument.
 fn call_class(helper: Option<Helper>, bytes: Abs) -> Option<LinuxClass>
     ensures { result ≡ portability.call_class helper bytes }
 {
@@ -198,7 +198,7 @@ fn call_class(helper: Option<Helper>, bytes: Abs) -> Option<LinuxClass>
     }
 }
 
-// A load or a store of so many bytes, from an offset behind what a register points to on.
+// The class of a load or a store of `size` bytes at `base + offset`.
 fn access_class_at(state: &AbsState, base: Reg, offset: i16, size: usize) -> Option<LinuxClass>
     requires positive { 0 < size }
     requires short { size ≤ 8 }
@@ -207,7 +207,9 @@ fn access_class_at(state: &AbsState, base: Reg, offset: i16, size: usize) -> Opt
     access_class(value_of(state, base), i64::from(offset), size as u64)
 }
 
-/// Why Linux refuses an instruction in front of which this is known, by an instruction of an accepted program; none where it does not.
+/// Returns why Linux refuses this instruction in this abstract state, or `None` if Linux accepts it.
+///
+/// The instruction must be part of an accepted program.
 pub fn class_of(state: &AbsState, insn: &Insn) -> Option<LinuxClass>
     ensures { result ≡ portability.class_of state.now insn.now }
 {

@@ -1,4 +1,4 @@
-//! A unit that Linux refuses.
+//! A place where Linux refuses a program.
 
 ghost use Rattle.std.specs.Prelude.{◌≡◌, ◌++◌, OnOk, string_bytes};
 ghost use Rattle.rb_portable.specs.Findings.{finding_text};
@@ -8,7 +8,7 @@ use rb_json::LineForm;
 use std::alloc::AllocError;
 use std::fmt::Write;
 
-/// A unit of a program at which Linux refuses it, and why.
+/// A unit at which Linux refuses a program, and the reason.
 #[derive(Clone, Copy, Debug, PartialEq, Eq)]
 pub struct Finding {
     /// Why Linux refuses the instruction.
@@ -17,7 +17,7 @@ pub struct Finding {
     pub unit: u32,
 }
 
-/// Adds the line of a finding to a text: `linux CLASS unit U`, or an object of JSON with `linux` and `unit`.
+/// Appends the line of a finding: `linux CLASS unit U`, or a JSON object with the members `linux` and `unit`.
 pub fn push_finding(text: &mut String, form: LineForm, finding: Finding) -> Result<(), AllocError>
     ensures added { OnOk result (string_bytes text.new ≡ string_bytes text.old ++ finding_text form finding) }
 {

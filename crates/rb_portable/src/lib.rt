@@ -1,7 +1,9 @@
-//! Where Linux refuses a program that is accepted here, for authors of programs that are to run on both: `findings` answers each such unit with its class.
+//! Reports where Linux refuses a program that this verifier accepts, for authors of programs that must run on both.
 //!
-//! A class is a predicate of an instruction and of what is known in front of it (`specs/Portability.antt`), and what is answered is proved to be exactly the
-//! units whose instruction has one. That Linux refuses those, and no others, is held against Linux by `tools/beside-linux`; docs/LINUX.md has a program for each class.
+//! `findings` returns each such unit with the reason, a *class*. A class is a predicate on an instruction and the
+//! abstract state before it (`specs/Portability.antt`). `findings` is proved to return exactly the units whose
+//! instruction has a class. That Linux refuses those units and no others is tested against Linux by
+//! `tools/beside-linux`; docs/LINUX.md has a program for each class.
 //!
 //! ```text
 //! // 07010000 08000000: r1 += 8;  79100000 00000000: r0 = *(u64 *)(r1 + 0)

@@ -1,34 +1,36 @@
-//! Why Linux refuses an instruction.
+//! The reasons for which Linux refuses an instruction.
 
 ghost use Rattle.std.specs.Prelude.{◌≡◌};
 
-/// Why Linux refuses an instruction of a program that is accepted here (Linux Documentation/bpf/verifier.rst; kernel/bpf/verifier.c).
+/// Why Linux refuses an instruction of a program that is accepted here.
+///
+/// Sources: Linux Documentation/bpf/verifier.rst; kernel/bpf/verifier.c.
 #[derive(Clone, Copy, Debug, PartialEq, Eq)]
 pub enum LinuxClass {
-    /// A load or a store at an offset of the stack that is no multiple of its size.
+    /// A load or a store at a stack offset that is not a multiple of its size.
     StackAlignment,
-    /// A load at an offset of the context that is no multiple of its size.
+    /// A load at a context offset that is not a multiple of its size.
     ContextAlignment,
-    /// A load through a pointer to the context that was moved.
+    /// A load through a context pointer that was moved.
     ContextMoved,
-    /// An output of the context's bytes.
+    /// An output of bytes of the context.
     ContextOutput,
-    /// An output of no bytes from the frame's top, the offset 0 of the stack.
+    /// An output of zero bytes from the top of the frame, stack offset 0.
     FrameTop,
-    /// A shift by an immediate that is negative, or is the width or more.
+    /// A shift by an immediate that is negative, or is at least the operation's width in bits.
     Shift,
-    /// A division by an immediate of zero, or its remainder.
+    /// A division or a remainder by an immediate of zero.
     Division,
-    /// A subtraction from a pointer to the stack.
+    /// A subtraction from a stack pointer.
     StackSubtraction,
-    /// A pointer that is moved by 2^29 or more, or to an offset so far away.
+    /// A move of a pointer by 2^29 or more in either direction, or to an offset that far away.
     PointerFar,
 }
 
 impl LinuxClass {
     ghost use Rattle.rb_portable.specs.Portability.{class_name};
 
-    /// The class's name, as it is printed.
+    /// Returns the name of the class, as it is printed.
     pub fn name(self) -> &'static str
         ensures { result.now ≡ class_name self }
     {

@@ -1,4 +1,4 @@
--- The instruction that the decoder makes of the fields is spelled by them.
+-- The instruction that the decoder builds from the fields has those fields as its encoding.
 use Rattle.std.proofs.Common.{◌≡◌, ℕ, ◌+◌, ◌*◌, ◌/◌, ◌%◌, ◌^◌, ◌<◌, ◌≤◌, ◌⊎◌, inl, inr, Bool, true, false, cond, ◌||◌, ◌&&◌, eqb, List, [], ◌∷◌, ◌++◌, refl, sym, ap, subst, ◌∙◌, arith}
 use Rattle.std.specs.Prelude.{FitsSigned}
 use Rattle.std.specs.Int.{w16, w32, cast_signed}
@@ -21,7 +21,7 @@ use Rattle.rb_program.proofs.Opcodes.{opcode_of}
 use Rattle.rb_program.proofs.Named.{fields}
 use Rattle.rb_program.proofs.FirstKinds.{NumbersFit}
 
--- ---- numbers of fields
+-- ---- the numbers in fields
 
 -- the fields are numbers of 16 and 32 bits
 pub record IsInRange (f : Fields) : Type 0 where
@@ -70,11 +70,11 @@ unit_eq o1 o2 d1 d2 s1 s2 f1 f2 i1 i2 o d s f i =
     ap (λ (n : ℕ). unit n d1 s1 f1 i1) o ∙ ap (λ (n : ℕ). unit o2 n s1 f1 i1) d ∙ ap (λ (n : ℕ). unit o2 d2 n f1 i1) s
     ∙ ap (λ (n : ℕ). unit o2 d2 s2 n i1) f ∙ ap (λ (n : ℕ). unit o2 d2 s2 f2 n) i
 
--- the first unit of the instruction that an operation makes of the fields
+-- the first unit of the instruction that the decoder builds from the fields
 abbrev pub unit_of : Fields → List ℕ
 unit_of f = unit f.opcode f.dst f.src f.offset f.imm
 
--- and its second
+-- its second unit
 abbrev pub second_of : OpcodeMeaning → ℕ → List ℕ
 second_of Wide next = second_unit next
 second_of op next = []
@@ -90,7 +90,7 @@ and_second false b h = absurd cc
 ten : (n : ℕ) → fits_register register n ≡ true → n ≤ 10
 ten n h = leb-true n 10 h
 
--- what the decoder has checked of a unit of an operation
+-- what the decoder has checked for a unit of an operation
 pub record IsChecked (op : OpcodeMeaning) (f : Fields) : Type 0 where
   pub opcode : opcode_of op ≡ f.opcode
   pub named : is_named_by op f ≡ true
@@ -104,7 +104,7 @@ checked_dst op f c = and_first (fits_register (row_for op f.src).dst f.dst) (fit
 checked_src : (op : OpcodeMeaning) (f : Fields) → IsChecked op f → fits_register (row_for op f.src).src f.src ≡ true
 checked_src op f c = and_second (fits_register (row_for op f.src).dst f.dst) (fits_register (row_for op f.src).src f.src) c.registers
 
--- the register of a destination field, and of a source field
+-- the registers in a destination field and in a source field
 dst_is : (f : Fields) → fits_register register f.dst ≡ true → (reg_at f.dst).number ≡ f.dst
 dst_is f h = reg_at-number f.dst (ten f.dst h)
 
@@ -114,7 +114,7 @@ src_is f h = reg_at-number f.src (ten f.src h)
 zero_is : (n : ℕ) → one_of (0 ∷ []) n ≡ true → 0 ≡ n
 zero_is n h = sym (one n 0 h)
 
--- ---- offsets and immediates that say more of the operation
+-- ---- offsets and immediates that select the operation
 
 sign_is : (n : ℕ) → one_of (0 ∷ 1 ∷ []) n ≡ true → division_offset (sign_from n) ≡ n
 sign_is n h =
@@ -167,9 +167,9 @@ swap_is n h =
 wide_numbers : (imm next : ℕ) → imm < 2 ^ 32 → ((2 ^ 32 * next + imm) % 2 ^ 32 ≡ imm) × ((2 ^ 32 * next + imm) / 2 ^ 32 ≡ next)
 wide_numbers imm next h = (omega arith, omega arith)
 
--- ---- the spelling
+-- ---- the encoding
 
--- the bytes that the fields and the next immediate are
+-- the fields and the next immediate encode the instruction
 abbrev pub IsSpelled : OpcodeMeaning → Fields → ℕ → Type 0
 IsSpelled op f next = spelling (insn_from op f next) ≡ unit_of f ++ second_of op next
 
@@ -189,7 +189,7 @@ wide_spelled f next src opcode dst offset imm at (inr ring) =
     ∙ ap (λ (n : ℕ). unit f.opcode f.dst 5 f.offset f.imm ++ second_unit n) (sym ring.1) in
     subst P (sym ring.0 ∙ at) map
 
--- the next immediate is zero where the row says so
+-- the next immediate is zero if the row requires it
 abbrev pub NextFits : OpcodeMeaning → Fields → ℕ → Type 0
 NextFits Wide f next = (f.src ≡ 5) → next ≡ 0
 NextFits op f next = Unit {0}

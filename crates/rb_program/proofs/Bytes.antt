@@ -26,7 +26,7 @@ four a b c d ha hb hc hd =
     ∙ ap (λ (m : ℕ). a ∷ b ∷ m ∷ n / 16777216 % 256 ∷ []) third
     ∙ ap (λ (m : ℕ). a ∷ b ∷ c ∷ m ∷ []) fourth
 
--- the unit that the fields at the front are stands there
+-- the fields read from the front of the bytes encode its first 8 bytes
 pub unit_of-fields_at : (bytes : List ℕ) → 8 ≤ length bytes → IsBytes bytes → unit_of (fields_at bytes) ≡ take 8 bytes
 unit_of-fields_at (a ∷ b ∷ c ∷ d ∷ e ∷ f ∷ g ∷ h ∷ rest) len fits =
     let registers : b % 16 + 16 * (b / 16) ≡ b = omega arith in
@@ -35,7 +35,7 @@ unit_of-fields_at (a ∷ b ∷ c ∷ d ∷ e ∷ f ∷ g ∷ h ∷ rest) len fit
     ∙ ap (λ (l : List ℕ). a ∷ b ∷ c ∷ d ∷ l) (four e f g h (fits 4) (fits 5) (fits 6) (fits 7))
 unit_of-fields_at bytes len fits = absurd (omega arith)
 
--- and behind it the second unit of this next immediate, where zeros stand before that
+-- the next immediate encodes the second unit, if four zero bytes precede it
 pub second_unit-next_imm_at : (bytes : List ℕ) → 8 ≤ length bytes → IsBytes (drop 8 bytes)
     → get_or (drop 8 bytes) 0 0 ≡ 0 → get_or (drop 8 bytes) 1 0 ≡ 0 → get_or (drop 8 bytes) 2 0 ≡ 0 → get_or (drop 8 bytes) 3 0 ≡ 0
     → 16 ≤ length bytes → second_unit (next_imm_at bytes) ≡ take 8 (drop 8 bytes)

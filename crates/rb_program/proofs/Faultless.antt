@@ -1,4 +1,4 @@
--- The units at which no fault stands and that are reached where an instruction begins.
+-- Units without a fault.
 use Rattle.std.proofs.Common.{◌≡◌, ⊎_elim, ℕ, ◌<◌, sym, ◌∙◌, List, Some, None}
 use Rattle.std.proofs.lemmas.Bool.{cases_lt}
 use Rattle.std.proofs.lemmas.List.{get_or_past}
@@ -10,12 +10,12 @@ use Rattle.rb_program.specs.Edges.{IsReached}
 use Rattle.rb_program.specs.ShapeFaults.{HasShapeFault, HasNoFault}
 use Rattle.rb_program.specs.Shape.{IsInstructionStart, IsWellShaped}
 
--- no fault stands at a unit, and it is reached where an instruction begins
+-- a unit without a fault, which is reachable if an instruction begins there
 pub record IsFaultless (program : List Insn) (unit : ℕ) : Type 0 where
   pub no_fault : HasNoFault program unit
   pub reached : IsInstructionStart program unit → IsReached program unit
 
--- a fault stands at an instruction alone
+-- only instructions have faults
 pub stands-begins : (program : List Insn) (unit : ℕ) (kind : ShapeFaultKind) → HasShapeFault program unit kind → IsInstructionStart program unit
 stands-begins program unit Backward fault = (fault.0, fault.1)
 stands-begins program unit OutOfProgram fault = (fault.1.insn, fault.1.begins)
@@ -33,7 +33,7 @@ faultless_none program unit none = record {
   reached = λ begins. absurd (none_begins program unit none begins);
 }
 
--- a program is well shaped where each of its units is faultless
+-- a program is well shaped if none of its units has a fault
 pub well_shaped_from : (program : List Insn) → ((unit : ℕ) → unit < unit_count program → IsFaultless program unit) → IsWellShaped program
 well_shaped_from program each = record {
   no_fault = λ unit. (at unit).no_fault;

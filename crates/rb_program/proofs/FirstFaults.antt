@@ -1,5 +1,5 @@
--- The laws of decoding: what has been decoded goes on by an instruction or ends at the first fault; bytes that spell a
--- program have no fault; there is one first fault at most.
+-- The laws of decoding: a decoded prefix continues with an instruction or ends at the first fault; bytes that encode a
+-- program have no fault; there is at most one first fault.
 use Rattle.std.proofs.lemmas.Bool.{cases_lt}
 use Rattle.std.proofs.Common.{◌≡◌, ℕ, ◌+◌, ◌*◌, ◌<◌, ◌≤◌, ◌⊎◌, inl, inr, List, [], ◌∷◌, ◌++◌, length, take, drop, Option, Some, None, get_or, Result, Ok, Err, ◌-◌, cond, eqb, refl, sym, ap, subst, ◌∙◌, append_assoc, arith}
 use Rattle.std.specs.Prelude.{IfOk, IfErr}
@@ -26,7 +26,7 @@ use Rattle.rb_program.proofs.Spelled.{no_fault-spelling}
 
 -- ---- units and instructions
 
--- a program's spelling fills its units
+-- a program's encoding fills its units
 pub length-spelled : (insns : List Insn) → length (flat_map spelling insns) ≡ 8 * unit_count insns
 length-spelled [] = refl
 length-spelled (insn ∷ insns) =
@@ -37,7 +37,7 @@ fit-append : (front back : List Insn) → AllByRecursion FieldsFit front → All
 fit-append [] back f b = b
 fit-append (insn ∷ front) back f b = (f.0, fit-append front back f.1 b)
 
--- ---- one instruction more
+-- ---- appending an instruction
 
 pub spelled_more : (insns : List Insn) (insn : Insn) (bytes : List ℕ) (n m : ℕ) → SpellsAll insns (take n bytes) → Spells insn (take m (drop n bytes))
     → SpellsAll (insns ++ insn ∷ []) (take (n + m) bytes)
@@ -75,7 +75,7 @@ no_spelling kind rest stands insn s p spells e =
     let at : rest ≡ spelling insn ++ p = e ∙ ap (λ (l : List ℕ). l ++ p) spells.bytes_are in
     no_fault-spelling insn p spells.fits kind (subst (λ (l : List ℕ). HasDecodeFault kind l) at stands)
 
--- a fault at a unit is of a kind that stands at units
+-- a fault at a unit has a kind that applies to units
 at_unit : (bytes : List ℕ) (unit : ℕ) (kind : DecodeKind) → IsFaultAt bytes unit kind → (HasBadLength bytes → ⊥) → (HasTooManyUnits bytes → ⊥) → IsFirstFaultAt bytes unit kind
 at_unit bytes unit Length fault length_fits not_long = absurd fault.first.stands
 at_unit bytes unit TooLong fault length_fits not_long = absurd fault.first.stands
@@ -111,7 +111,7 @@ fits_behind : (front back : List Insn) → AllByRecursion FieldsFit (front ++ ba
 fits_behind [] back f = f
 fits_behind (insn ∷ front) back f = fits_behind front back f.1
 
--- the bytes, cut behind the front
+-- the bytes, split after the prefix
 cut : (bytes : List ℕ) (unit : ℕ) (kind : DecodeKind) (fault : IsFaultAt bytes unit kind) → bytes ≡ flat_map spelling fault.front ++ drop (8 * unit) bytes
 cut bytes unit kind fault = sym (take-append-drop (8 * unit) bytes) ∙ ap (λ (l : List ℕ). l ++ drop (8 * unit) bytes) fault.spelled.bytes_are
 
@@ -120,7 +120,7 @@ unit_is bytes unit kind fault =
     let inside : 8 * unit < length bytes = fault.within in
     omega (arith, length-take (8 * unit) bytes, ap length fault.spelled.bytes_are, length-spelled fault.front)
 
--- no instruction is spelled behind the front
+-- no instruction is encoded after the prefix
 nothing_behind : (bytes : List ℕ) (unit : ℕ) (kind : DecodeKind) (fault : IsFaultAt bytes unit kind) (more : List Insn) (rest : List ℕ)
     → AllByRecursion FieldsFit more → bytes ≡ flat_map spelling (fault.front ++ more) ++ rest → more ≡ []
 nothing_behind bytes unit kind fault [] rest fits e = refl
@@ -134,7 +134,7 @@ nothing_behind bytes unit kind fault (insn ∷ more) rest fits e =
     append_cancel_left (flat_map spelling fault.front) _ _ (sym (cut bytes unit kind fault) ∙ e ∙ regrouped) in
     absurd (fault.longest insn (spelling insn) (flat_map spelling more ++ rest) (record { fits = fits.0; bytes_are = refl }) begins)
 
--- a list of instructions that begins the bytes is a beginning of the front
+-- a list of instructions that the bytes start with is a prefix of the longest such list
 front_begins : (bytes : List ℕ) (unit : ℕ) (kind : DecodeKind) (fault : IsFaultAt bytes unit kind) (insns : List Insn) (rest : List ℕ)
     → AllByRecursion FieldsFit insns → bytes ≡ flat_map spelling insns ++ rest → (more : List Insn) × (fault.front ≡ insns ++ more)
 front_begins bytes unit kind fault insns rest fits e =
@@ -155,7 +155,7 @@ not_at_unit program bytes unit kind spells fault =
     let counts : unit_count fault.front ≡ unit_count program + unit_count begins.0 = ap unit_count begins.1 ∙ unit_count-append program begins.0 in
     absurd (omega (arith, unit_is bytes unit kind fault, ap length spells.bytes_are, length-spelled program))
 
--- which of the three a first fault is
+-- a first fault of the third sort: the fault after the longest prefix of whole instructions
 pub record IsBehindFront (bytes : List ℕ) (unit : ℕ) (kind : DecodeKind) : Type 0 where
   pub fault : IsFaultAt bytes unit kind
   pub length_fits : HasBadLength bytes → ⊥
@@ -173,7 +173,7 @@ one_of_three bytes unit TooLong first = inr (inl (refl, first.0, first.1, first.
 one_of_three bytes unit Memory first = absurd first
 one_of_three bytes unit kind first = inr (inr (record { fault = first.0; length_fits = first.1; not_long = first.2 }))
 
--- bytes that spell a program have no fault
+-- bytes that encode a program have no fault
 pub spelled_no_fault : (program : List Insn) (bytes : List ℕ) (fault : DecodeFault) → IsProgram program → SpellsAll program bytes → IsFirstDecodeFault bytes fault → ⊥
 spelled_no_fault program bytes fault bounds spells first =
     let fine = bytes_of_program program bytes bounds spells in
@@ -221,7 +221,7 @@ same_fault f g u k =
     ap (λ (n : ℕ). (let fault : DecodeFault = record { unit = n; kind = f.kind } in fault)) u
     ∙ ap (λ (l : DecodeKind). (let fault : DecodeFault = record { unit = g.unit; kind = l } in fault)) k
 
--- bytes have one first fault at most
+-- bytes have at most one first fault
 pub one_first_fault : (bytes : List ℕ) (f g : DecodeFault) → IsFirstDecodeFault bytes f → IsFirstDecodeFault bytes g → f ≡ g
 one_first_fault bytes f g first second =
     elim (one_of_three bytes f.unit f.kind first) [
@@ -252,11 +252,11 @@ one_first_fault bytes f g first second =
 
 -- ---- at the end of the bytes
 
--- the rest of the bytes, as a slice shows it
+-- the rest of the bytes, as a slice
 pub rest_of : (n : ℕ) (bytes : List ℕ) → take (length bytes - n) (drop n bytes) ≡ drop n bytes
 rest_of n bytes = take_all (length bytes - n) (drop n bytes) (omega (arith, length-drop n bytes))
 
--- what the decoder answers is the one program, and the one first fault
+-- the decoder returns the only program, or the only first fault
 pub record IsAnswer (bytes : List ℕ) (answer : Result (List Insn) DecodeFault) : Type 0 where
   pub bounds : IfOk answer IsProgram
   pub spelled : IfOk answer (λ program. SpellsAll program bytes)
@@ -282,7 +282,7 @@ only_fault bytes (Err found) is fault first =
 
 -- ---- encoding
 
--- the bytes of one instruction more
+-- the bytes after encoding one more instruction
 pub encoded_more : (units : List (Option Insn)) (i : ℕ) (insn : Insn) (bytes new : List ℕ) → i < length units → Some insn ≡ get_or units i (Some insn)
     → SpellsAll (insns_in (take i units)) bytes → Spells insn new → SpellsAll (insns_in (take (i + 1) units)) (bytes ++ new)
 encoded_more units i insn bytes new h at all one =
@@ -297,7 +297,7 @@ encoded_more units i insn bytes new h at all one =
     } in
     subst (λ (l : List Insn). SpellsAll l (bytes ++ new)) (sym more) spells
 
--- a second unit adds none
+-- a second unit adds no bytes
 pub encoded_second : (units : List (Option Insn)) (i : ℕ) (bytes : List ℕ) → i < length units → None ≡ get_or units i None
     → SpellsAll (insns_in (take i units)) bytes → SpellsAll (insns_in (take (i + 1) units)) bytes
 encoded_second units i bytes h at all =

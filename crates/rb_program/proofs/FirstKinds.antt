@@ -1,4 +1,4 @@
--- The first kind of fault at a unit, from what the decoder found of the unit.
+-- The first kind of fault at a unit, from what the decoder has found there.
 use Rattle.std.proofs.Common.{◌≡◌, ℕ, ◌<◌, ◌≤◌, ◌⊎◌, inl, inr, Bool, true, false, ◌&&◌, List, length, Option, Some, None, refl, sym, ap, subst, arith}
 use Rattle.std.specs.Prelude.{IsSomeAnd, IsSome, IsTrue}
 use Rattle.std.proofs.lemmas.Bool.{leb-false, leb-true}
@@ -85,7 +85,7 @@ has_unused r bytes h =
       ]
     ]
 
--- the second unit, where there is one, holds what the row allows
+-- the second unit, if present, holds what the row allows
 abbrev pub SecondFits : Row → List ℕ → Type 0
 SecondFits r bytes = (16 ≤ length bytes) × IsSomeAnd r.next (λ next. HasBadSecondUnit next bytes) → ⊥
 
@@ -126,7 +126,7 @@ before_bad_opcode bytes kept other h stands = absurd (omega arith)
 pub first_bad_opcode : (bytes : List ℕ) → is_left_out (fields_at bytes) ≡ false → row_of (fields_at bytes) ≡ None → IsFirstKind BadOpcode bytes
 first_bad_opcode bytes kept h = record { stands = h; first = before_bad_opcode bytes kept }
 
--- what the decoder has found of a unit that is in a row
+-- what the decoder has found for a unit that is in a row
 pub record InRow (r : Row) (bytes : List ℕ) : Type 0 where
   pub kept : is_left_out (fields_at bytes) ≡ false
   pub row : row_of (fields_at bytes) ≡ Some r
@@ -163,7 +163,7 @@ first_unused r bytes in_row good bad = record {
   first = before_unused r bytes in_row good;
 }
 
--- no fault stands but that a second unit may be missing
+-- the unit has no fault, except that a second unit may be missing
 pub none_but_half : (r : Row) (bytes : List ℕ) → InRow r bytes → (HasBadRegister r (fields_at bytes) → ⊥) → (HasUnusedField r bytes → ⊥)
     → (other : DecodeKind) → (other ≡ HalfWide → ⊥) → HasDecodeFault other bytes → ⊥
 none_but_half r bytes in_row good used LeftOut h stands = left (is_left_out (fields_at bytes)) in_row.kept stands
@@ -189,7 +189,7 @@ half_or_other : (other : DecodeKind) → (other ≡ HalfWide) ⊎ (other ≡ Hal
 half_or_other HalfWide = inl refl
 half_or_other other = inr (λ e. absurd cc)
 
--- no fault stands at a unit that keeps the rules of its row
+-- a unit that keeps the rules of its row has no fault
 pub no_kind : (r : Row) (bytes : List ℕ) → InRow r bytes → (HasBadRegister r (fields_at bytes) → ⊥) → (HasUnusedField r bytes → ⊥)
     → (IsSome r.next → 16 ≤ length bytes) → (kind : DecodeKind) → HasDecodeFault kind bytes → ⊥
 no_kind r bytes in_row good used whole kind stands =

@@ -1,4 +1,4 @@
--- What the decoder answers at the front of bytes: each exit of its one step.
+-- The decoder's result for the front of the bytes: a lemma for each exit of its one step.
 use Rattle.std.proofs.Common.{◌≡◌, ℕ, ◌+◌, ◌*◌, ◌^◌, ◌<◌, ◌≤◌, ◌⊎◌, inl, inr, Bool, true, false, cond, ◌||◌, ◌&&◌, eqb, List, [], ◌++◌, length, take, drop, slice_index, get_or, Option, Some, None, refl, sym, ap, subst, ◌∙◌, arith}
 use Rattle.std.specs.Prelude.{IsSomeAnd, is_some, ◌≢◌}
 use Rattle.std.proofs.lemmas.Bool.{eqb-true}
@@ -34,7 +34,7 @@ use Rattle.rb_program.proofs.Bytes.{IsBytes, unit_of-fields_at, second_unit-next
 pub no_operation : (bytes : List ℕ) → IsBytes bytes → is_left_out (fields_at bytes) ≡ false → operation_at (fields_at bytes).opcode ≡ None → IsFirstKind BadOpcode bytes
 no_operation bytes fits kept none = first_bad_opcode bytes kept (row_of-unlisted (fields_at bytes) (fits 0) none)
 
--- what the decoder has found of the unit at the front
+-- what the decoder has found for the unit at the front
 pub record IsFound (op : OpcodeMeaning) (bytes : List ℕ) : Type 0 where
   pub bytes_fit : IsBytes bytes
   pub kept : is_left_out (fields_at bytes) ≡ false
@@ -64,7 +64,7 @@ pub number_unused : (op : OpcodeMeaning) (bytes : List ℕ) → IsFound op bytes
 number_unused op bytes found named registers h =
     first_unused (row_at op bytes) bytes (in_row op bytes found named) (has_no_bad_register (row_at op bytes) (fields_at bytes) registers) (has_unused (row_at op bytes) bytes h)
 
--- what it has found of its fields
+-- what it has found for the fields of that unit
 pub record IsKept (op : OpcodeMeaning) (bytes : List ℕ) : Type 0 where
   pub found : IsFound op bytes
   pub named : is_named_by op (fields_at bytes) ≡ true
@@ -111,7 +111,7 @@ and_false : (a b : Bool) → (a && b) ≡ false → (a ≡ false) ⊎ (b ≡ fal
 and_false true b h = inr h
 and_false false b h = inl refl
 
--- the bytes before the next immediate, from their test
+-- the bytes before the next immediate are zero, given the result of the test
 record AreZeros (bytes : List ℕ) : Type 0 where
   eighth : slice_index bytes 8 ≡ 0
   ninth : slice_index bytes 9 ≡ 0
@@ -146,7 +146,7 @@ nonzero bytes h =
       ]
     ]
 
--- what a byte or the next immediate of a second unit says of the row
+-- a bad byte or next immediate of a second unit is one that the row does not allow
 bad_second : (b : Bool) (bytes : List ℕ) (src : ℕ) → eqb src 0 ≡ b → IsBadSecond bytes src → IsSomeAnd (cond b wide_number_row wide_map_row).next (λ next. HasBadSecondUnit next bytes)
 bad_second true bytes src e (inl bad) = inl (nonzero bytes bad)
 bad_second true bytes src e (inr bad) = absurd (bad.0 (eqb-true src 0 e))
@@ -212,7 +212,7 @@ next_fits-zero : (op : OpcodeMeaning) (f : Fields) → NextFits op f 0
 next_fits-zero Wide f = λ e. refl
 next_fits-zero op f = tt
 
--- what spells an instruction of so many units
+-- the encoding of an instruction, given its number of units
 spelled : (insn : Insn) (units : ℕ) (bytes : List ℕ) → FieldsFit insn → units_taken insn ≡ units → spelling insn ≡ take (8 * units) bytes → Spells insn (take (8 * units_taken insn) bytes)
 spelled insn units bytes fits taken e = record {
   fits = fits;
@@ -273,9 +273,9 @@ wide_spelled op bytes next keeps wide second =
     let P : OpcodeMeaning → Type 0 = λ o. IsKept o bytes → Spells (insn_from o (fields_at bytes) next) (take (8 * units_taken (insn_from o (fields_at bytes) next)) bytes) in
     subst P (sym (only_wide op (fields_at bytes).src wide)) (λ k. spelled_wide bytes next k second) keeps
 
--- ---- what the calls of the step answered, at the bytes
+-- ---- the results of the step's calls, for the bytes
 
--- a function of the fields, where a call answered it
+-- a function of the fields, given the result of a call
 pub told : {A : Type 0} (g : Fields → A) (f : Fields) (bytes : List ℕ) (answer value : A) → f ≡ fields_at bytes → answer ≡ g f → answer ≡ value → g (fields_at bytes) ≡ value
 told g f bytes answer value at answered is = ap g (sym at) ∙ sym answered ∙ is
 

@@ -1,4 +1,4 @@
--- What a program keeps of its units, against the slots that its contracts see.
+-- The stored units of a program, against the slots that its contracts see.
 use Rattle.std.proofs.Common.{◌≡◌, ◌≢◌, ℕ, zero, suc, ◌-◌, ◌<◌, ◌≤◌, inl, inr, List, [], ◌∷◌, ◌++◌, length, replicate, get_or, Option, Some, None, Bool, true, false, cond, ◌==◌, refl, sym, ap, ◌∙◌, append_assoc, arith}
 use Rattle.std.proofs.lemmas.Bool.{cases_lt}
 use Rattle.std.proofs.lemmas.List.{get_or_past, get_or_default}
@@ -27,7 +27,7 @@ insns_in-units_of (insn ∷ insns) =
       | inr two ↦ ap insns_in (units_of-wide insn insns two) ∙ ap (λ (l : List Insn). insn ∷ l) (insns_in-units_of insns)
     ]
 
--- ---- what is kept
+-- ---- what is stored
 
 kept_units-narrow : (insn : Insn) (insns : List Insn) → units_taken insn ≡ 1 → kept_units (insn ∷ insns) ≡ insn ∷ kept_units insns
 kept_units-narrow insn insns h = ap (λ (n : ℕ). insn ∷ (replicate (n - 1) Exit ++ kept_units insns)) h
@@ -41,7 +41,7 @@ kept_units-append (insn ∷ insns) back =
     ap (λ (units : List Insn). (insn ∷ replicate (units_taken insn - 1) Exit) ++ units) (kept_units-append insns back)
     ∙ sym (append_assoc (insn ∷ replicate (units_taken insn - 1) Exit) (kept_units insns) (kept_units back))
 
--- ---- what stands at the units that are kept
+-- ---- the stored units
 
 slots_behind-kept : (before : Insn) (insns : List Insn) → units_taken before ≡ 1 → slots_behind before (kept_units insns) ≡ units_of insns
 slots_behind-kept before [] one = refl
@@ -91,7 +91,7 @@ slot_within units unit laid_out h = ap (λ (slots : List (Option Insn)). get_or 
 slot_past : (units : List Insn) (unit : ℕ) → kept_units (insns_kept units) ≡ units → length units ≤ unit → slot_at (insns_kept units) unit ≡ None
 slot_past units unit laid_out h = get_or_past (units_of (insns_kept units)) unit None (omega (arith, counted units laid_out))
 
--- none begins behind the first unit of a wide one
+-- no instruction begins after the first unit of a wide one
 pub slot_second : (units : List Insn) (unit : ℕ) → kept_units (insns_kept units) ≡ units → is_behind_wide units unit ≡ true → slot_at (insns_kept units) unit ≡ None
 slot_second units unit laid_out behind =
     elim (cases_lt unit (length units)) [
@@ -99,7 +99,7 @@ slot_second units unit laid_out behind =
       | inr past ↦ slot_past units unit laid_out past
     ]
 
--- and elsewhere what is kept
+-- at any other unit, the stored instruction begins
 pub slot_found : (units : List Insn) (unit : ℕ) (found : Option (Bor Insn)) → kept_units (insns_kept units) ≡ units → is_behind_wide units unit ≡ false
     → IfSome found (λ insn. insn.now ≡ get_or units unit insn.now) → MatchOption found (length units ≤ unit) (λ insn. (unit < length units) × HoldsAt (λ y. insn.now ≡ y) units unit)
     → option_copied found ≡ slot_at (insns_kept units) unit
@@ -107,7 +107,7 @@ slot_found units unit None laid_out first is past = sym (slot_past units unit la
 slot_found units unit (Some insn) laid_out first is inside =
     sym (slot_within units unit laid_out inside.0 ∙ ap (λ (b : Bool). cond b None (Some (get_or units unit Exit))) first ∙ ap Some (get_or_default units unit Exit insn.now inside.0 ∙ sym is))
 
--- where one is known to begin, it is what is kept
+-- if an instruction is known to begin at a unit, it is the stored one
 chosen : (b : Bool) (insn : Insn) → cond b None (Some insn) ≢ None → cond b None (Some insn) ≡ Some insn
 chosen true insn h = absurd (h refl)
 chosen false insn h = refl

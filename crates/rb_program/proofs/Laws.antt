@@ -1,4 +1,4 @@
--- Laws on the units of a program, for the crates above.
+-- Lemmas about the units of a program, for the crates above.
 use Rattle.std.proofs.Common.{◌≡◌, ℕ, zero, suc, ◌+◌, ◌-◌, ◌<◌, ◌≤◌, ◌⊎◌, inl, inr, List, [], ◌∷◌, ◌++◌, length, replicate, get_or, Option, Some, None, refl, sym, ap, subst, ◌∙◌, append_assoc, arith}
 use Rattle.std.proofs.lemmas.Bool.{cases_lt}
 use Rattle.std.proofs.lemmas.List.{length-append, get_or-append-add, get_or_past}
@@ -20,11 +20,11 @@ units_taken-bounds insn =
       | inr two ↦ (omega arith, omega arith)
     ]
 
--- a narrow instruction, and the program behind it
+-- the units of a narrow instruction, followed by those of the rest of the program
 pub units_of-narrow : (insn : Insn) (insns : List Insn) → units_taken insn ≡ 1 → units_of (insn ∷ insns) ≡ Some insn ∷ units_of insns
 units_of-narrow insn insns h = ap (λ (n : ℕ). Some insn ∷ (replicate (n - 1) None ++ units_of insns)) h
 
--- a wide instruction, and the program behind it
+-- the units of a wide instruction, followed by those of the rest of the program
 pub units_of-wide : (insn : Insn) (insns : List Insn) → units_taken insn ≡ 2 → units_of (insn ∷ insns) ≡ Some insn ∷ None ∷ units_of insns
 units_of-wide insn insns h = ap (λ (n : ℕ). Some insn ∷ (replicate (n - 1) None ++ units_of insns)) h
 
@@ -44,20 +44,20 @@ unit_count-cons insn insns =
 pub unit_count-append : (front back : List Insn) → unit_count (front ++ back) ≡ unit_count front + unit_count back
 unit_count-append front back = ap length (units_of-append front back) ∙ length-append (units_of front) (units_of back)
 
--- an instruction begins behind the instructions before it
+-- an instruction begins after the instructions before it
 pub slot_at-behind : (before : List Insn) (insn : Insn) (after : List Insn) → slot_at (before ++ insn ∷ after) (unit_count before) ≡ Some insn
 slot_at-behind before insn after =
     ap (λ (units : List (Option Insn)). get_or units (unit_count before) None) (units_of-append before (insn ∷ after))
     ∙ get_or-append_seam (units_of before) (Some insn) (replicate (units_taken insn - 1) None ++ units_of after) None
 
--- and none begins at its second unit
+-- none begins at its second unit
 pub slot_at-second : (before : List Insn) (insn : Insn) (after : List Insn) → units_taken insn ≡ 2 → slot_at (before ++ insn ∷ after) (unit_count before + 1) ≡ None
 slot_at-second before insn after two =
     let units : units_of (before ++ insn ∷ after) ≡ units_of before ++ Some insn ∷ None ∷ units_of after = units_of-append before (insn ∷ after) ∙ ap (λ (units : List (Option Insn)). units_of before ++ units) (units_of-wide insn after two) in
     ap (λ (units : List (Option Insn)). get_or units (unit_count before + 1) None) units
     ∙ get_or-append-add (units_of before) (Some insn ∷ None ∷ units_of after) 1 None
 
--- A unit of a program is the first or the second one of an instruction of it.
+-- A unit of a program is the first or the second unit of one of its instructions.
 pub record IsUnitOf (program : List Insn) (unit : ℕ) : Type 0 where
   pub before : List Insn
   pub insn : Insn
@@ -98,7 +98,7 @@ unit_of (insn ∷ insns) unit h =
       | inr above ↦ grow insn insns unit above (unit_of insns (unit - units_taken insn) (omega (arith, unit_count-cons insn insns)))
     ]
 
--- an instruction that begins at a unit, among the others of its program
+-- a program split at the instruction that begins at a unit
 pub record IsSplit (program : List Insn) (unit : ℕ) (insn : Insn) : Type 0 where
   pub before : List Insn
   pub after : List Insn

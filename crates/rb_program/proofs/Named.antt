@@ -83,7 +83,7 @@ store_register : (size : Size) → HasRow (StoreRegister size)
 store_register sizes.Byte d s o i = refl
 store_register size d s o i = refl
 
--- ---- where another field names the row
+-- ---- rows that another field selects
 
 reorder : (order : ByteOrder) (d s o i : ℕ) → row_of (fields (opcode_of (Reorder order)) d s o i) ≡ cond (one_of (16 ∷ 32 ∷ 64 ∷ []) i) (Some byte_swap_row) None
 reorder Little d s o i = refl
@@ -145,22 +145,22 @@ unnamed Call d s o i h = calls d s o i ∙ left_and (one_of (0 ∷ []) s) call_r
 unnamed Wide d s o i h = wide d s o i ∙ left_of_two (eqb s 0) (eqb s 5) wide_number_row wide_map_row h
 unnamed op d s o i h = absurd cc
 
--- ---- at any unit
+-- ---- any unit
 
 abbrev at : Fields → ℕ → Fields
 at f opcode = fields opcode f.dst f.src f.offset f.imm
 
--- a unit that an operation names is in the operation's row
+-- a unit with the opcode and the other numbers of an operation is in the operation's row
 pub row_of-named : (op : OpcodeMeaning) (f : Fields) → opcode_of op ≡ f.opcode → is_named_by op f ≡ true → row_of f ≡ Some (row_for op f.src)
 row_of-named op f e h =
     ap (λ (n : ℕ). row_of (at f n)) (sym e) ∙ named op f.dst f.src f.offset f.imm (ap (λ (n : ℕ). is_named_by op (at f n)) e ∙ h)
 
--- and with other numbers it is in no row
+-- with other numbers, it is in no row
 pub row_of-unnamed : (op : OpcodeMeaning) (f : Fields) → opcode_of op ≡ f.opcode → is_named_by op f ≡ false → row_of f ≡ None
 row_of-unnamed op f e h =
     ap (λ (n : ℕ). row_of (at f n)) (sym e) ∙ unnamed op f.dst f.src f.offset f.imm (ap (λ (n : ℕ). is_named_by op (at f n)) e ∙ h)
 
--- ---- what is left out
+-- ---- instructions that are not supported
 
 abbrev IsKept : OpcodeMeaning → Type 0
 IsKept op = (d s o i : ℕ) → is_left_out (fields (opcode_of op) d s o i) ≡ false
@@ -258,7 +258,7 @@ kept (LoadSigned size) d s o i h = kept_load_signed size d s o i
 kept (StoreImmediate size) d s o i h = kept_store_immediate size d s o i
 kept (StoreRegister size) d s o i h = kept_store_register size d s o i
 
--- a unit that an operation names is not left out
+-- a unit with the opcode and the other numbers of an operation is supported
 pub not_left_out : (op : OpcodeMeaning) (f : Fields) → opcode_of op ≡ f.opcode → is_named_by op f ≡ true → is_left_out f ≡ false
 not_left_out op f e h =
     ap (λ (n : ℕ). is_left_out (at f n)) (sym e) ∙ kept op f.dst f.src f.offset f.imm (ap (λ (n : ℕ). is_named_by op (at f n)) e ∙ h)

@@ -76,11 +76,11 @@ from_unlisted : (n : ℕ) (b : Bool) → None ≡ cond b (Some n) None → b ≡
 from_unlisted n true e = absurd cc
 from_unlisted n false e = refl
 
--- an operation is found for its opcode alone
+-- an operation is found for its own opcode only
 pub operation_at-some : (n : ℕ) (op : OpcodeMeaning) → n < 256 → operation_at n ≡ Some op → opcode_of op ≡ n
 operation_at-some n op h e = from_listed op n (lists opcode_table n) (ap (option_map opcode_of) (sym e) ∙ found-listed n h)
 
--- and where none is found no row has the opcode
+-- if none is found, no row has the opcode
 pub operation_at-none : (n : ℕ) → n < 256 → operation_at n ≡ None → lists opcode_table n ≡ false
 operation_at-none n h e = from_unlisted n (lists opcode_table n) (ap (option_map opcode_of) (sym e) ∙ found-listed n h)
 

@@ -1,4 +1,4 @@
--- The search for the units that a path reaches: each turn keeps what is known, and at the end just those units are marked.
+-- The search for reachable units: each step keeps the invariant, and at the end exactly those units are marked.
 use Rattle.std.proofs.Common.{◌≡◌, ◌⊎◌, inl, inr, ⊎_elim, ℕ, zero, suc, ◌+◌, ◌<◌, refl, sym, ◌∙◌, ap, subst, Bool, true, false, List, [], ◌∷◌, ◌++◌, length, get_or, set, Option, Some, None, arith, length-append, length-set, replicate, get_or-set_same, get_or-set_other}
 use Rattle.std.specs.List.{Contains}
 use Rattle.std.proofs.lemmas.Bool.{cases_eq, cases_lt}
@@ -67,7 +67,7 @@ nothing_there {program} {marks} waiting u none h = record {
     no_edge : TargetsMarked program marks u
     no_edge along to e lt = let f : None ≡ Some e.insn = sym none ∙ e.begins in cc
 
--- the targets of a unit are marked
+-- after a step, the targets of the unit's edges are marked
 pub looked_at : {program : List Insn} {marks m1 m2 : List Bool} {t1 t2 : List ℕ} (waiting : List ℕ) (u : ℕ) (i : Insn) → slot_at program u ≡ Some i → Search program marks (waiting ++ u ∷ []) → Marks (edge_target u i Next) marks waiting m1 t1 → Marks (edge_target u i Target) m1 t1 m2 t2 → Search program m2 t2
 looked_at {program} {marks} {m1} {m2} {t1} {t2} waiting u i at h f g = record {
   count = g.count ∙ f.count ∙ h.count;

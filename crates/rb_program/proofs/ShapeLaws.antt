@@ -1,4 +1,4 @@
--- What a program with a shape is like, for the crates above.
+-- Properties of well-shaped programs, for the crates above.
 use Rattle.std.proofs.Common.{◌≡◌, ◌⊎◌, inl, inr, ⊎_elim, ℕ, ◌+◌, ◌<◌, ℤ, pos, negsuc, ◌+ℤ◌, ◌<ℤ◌, refl, sym, ◌∙◌, ap, subst, true, List, Option, Some, None, arith}
 use Rattle.std.specs.Option.{option_and_then}
 use Rattle.std.proofs.lemmas.Bool.{cases_lt, cases_order}
@@ -15,7 +15,7 @@ use Rattle.rb_program.specs.Edges.{Edge, Next, Target, falls_through, distance_o
 use Rattle.rb_program.specs.ShapeFaults.{HasShapeFault, HasNoFault, fault_order, IsFirstShapeFault}
 use Rattle.rb_program.specs.Shape.{IsInstructionStart, AllIsReached, IsWellShaped, EdgesLeadForward, NothingFallsOff, JumpsLand, EachIsEntered}
 
--- an instruction begins at a unit of the program
+-- a unit at which an instruction begins is in the program
 pub begins-lt : (program : List Insn) (unit : ℕ) (insn : Insn) → slot_at program unit ≡ Some insn → unit < unit_count program
 begins-lt program unit insn begins =
     ⊎_elim (λ inside. inside) (λ past. let none : None ≡ Some insn = sym (get_or_past (units_of program) unit None past) ∙ begins in cc) (cases_lt unit (unit_count program))
@@ -34,7 +34,7 @@ pub leads-goes_on : (unit : ℕ) (insn : Insn) → falls_through insn ≡ true �
 unfolding edge_target
 leads-goes_on unit insn on = rw on
 
--- a jump's edge, by its distance
+-- the target of a jump, from its distance
 pub leads-target : (unit : ℕ) (insn : Insn) (to : ℕ) → edge_target unit insn Target ≡ Some to → (distance : ℤ) × (distance_of insn ≡ Some distance) × (unit_from (pos (unit + 1) +ℤ distance) ≡ Some to)
 unfolding edge_target
 leads-target unit insn to leads_to = by_distance (distance_of insn) refl leads_to
@@ -49,7 +49,7 @@ leads-distance unit insn distance jumps = rw jumps
 
 -- ---- programs without a fault
 
--- a distance that is not below 0 leads forward
+-- a distance that is not negative leads forward
 forward_distance : (unit : ℕ) (distance : ℤ) → ((distance <ℤ pos 0) → ⊥) → (to : ℕ) × (unit_from (pos (unit + 1) +ℤ distance) ≡ Some to) × (unit < to)
 forward_distance unit (pos n) not_back = (unit + 1 + n, refl, omega arith)
 forward_distance unit (negsuc n) not_back = absurd (not_back (record { lt = tt }))
@@ -92,7 +92,7 @@ each_entered program forward reached unit begins positive = last_edge unit (reac
 pub begins_first : (program : List Insn) → IsProgram program → IsLaidOut program → IsInstructionStart program 0
 begins_first program bounds laid_out = laid_out.first (omega (arith, bounds.not_empty))
 
--- ---- the first fault is one
+-- ---- the first fault is unique
 
 rank-injective : (kind other : ShapeFaultKind) → fault_order kind ≡ fault_order other → kind ≡ other
 rank-injective Backward Backward same = refl
@@ -103,7 +103,7 @@ rank-injective Unreachable Unreachable same = refl
 rank-injective Memory Memory same = refl
 rank-injective kind other same = absurd (omega arith)
 
--- a program has one first fault at most
+-- a program has at most one first fault
 pub first_fault-unique : (program : List Insn) (fault other : ShapeFault) → IsFirstShapeFault program fault → IsFirstShapeFault program other → fault ≡ other
 first_fault-unique program fault other first second = by_unit (cases_order fault.unit other.unit)
   where

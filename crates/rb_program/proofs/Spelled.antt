@@ -1,4 +1,4 @@
--- No fault stands at a unit where an instruction is spelled.
+-- There is no fault at a unit where an encoded instruction begins.
 use Rattle.std.proofs.Common.{◌≡◌, ℕ, ◌/◌, ◌%◌, ◌^◌, ◌<◌, ◌≤◌, inl, inr, true, ◌&&◌, leb, List, [], ◌∷◌, ◌++◌, length, slice_index, refl, ap, subst, ◌∙◌, arith}
 use Rattle.std.specs.Prelude.{IsSome, ◌≢◌}
 use Rattle.std.proofs.lemmas.Bool.{cases_lt, le-leb}
@@ -56,7 +56,7 @@ op_of (insns.LoadSigned size dst base offset) = LoadSigned size
 op_of (insns.StoreImmediate size base offset value) = StoreImmediate size
 op_of (insns.StoreRegister size base offset src) = StoreRegister size
 
--- the fields behind the opcode: destination, source, offset, immediate
+-- the fields after the opcode: destination, source, offset, immediate
 abbrev four : OpcodeMeaning → ℕ → ℕ → ℕ → ℕ → Fields
 four op d s o i = fields (opcode_of op) d s o i
 
@@ -84,7 +84,7 @@ fields_of (insns.LoadSigned size dst base offset) = four (LoadSigned size) dst.n
 fields_of (insns.StoreImmediate size base offset value) = four (StoreImmediate size) base.number 0 (bits16 offset) (bits32 value)
 fields_of (insns.StoreRegister size base offset src) = four (StoreRegister size) base.number src.number (bits16 offset) 0
 
--- what the decoder reads at a spelling
+-- what the decoder reads from an encoding
 abbrev without_next : spelled.Fields → Fields
 without_next f = fields f.opcode f.dst f.src f.offset f.imm
 
@@ -133,7 +133,7 @@ fields_at-spelling (insns.LoadSigned size dst base offset) p fits = fields_at-un
 fields_at-spelling (insns.StoreImmediate size base offset value) p fits = fields_at-unit _ _ _ _ _ p (dst16 base) (bits16-bound offset fits.offset) (bits32-bound value fits.imm)
 fields_at-spelling (insns.StoreRegister size base offset src) p fits = fields_at-unit _ _ _ _ _ p (dst16 base) (bits16-bound offset fits.offset) zero32
 
--- ---- what the decoder checks of them
+-- ---- the decoder's checks on them
 
 record IsGood (a : Insn) : Type 0 where
   opcode : opcode_of (op_of a) ≡ (fields_of a).opcode
@@ -201,7 +201,7 @@ between P a b c d i low high =
       ]
     ]
 
--- zeros stand before the next immediate
+-- the bytes before the next immediate are zero
 pub zeros : (bytes : List ℕ) → slice_index bytes 8 ≡ 0 → slice_index bytes 9 ≡ 0 → slice_index bytes 10 ≡ 0 → slice_index bytes 11 ≡ 0
     → (i : ℕ) × (8 ≤ i) × (i < 12) × (slice_index bytes i ≢ 0) → ⊥
 zeros bytes a b c d bad = bad.3 (between (λ i. slice_index bytes i ≡ 0) a b c d bad.0 bad.1 bad.2)
@@ -247,7 +247,7 @@ whole a p some = absurd cc
 
 -- ---- no fault
 
--- No fault stands at the front of bytes that a spelling begins.
+-- Bytes that start with the encoding of an instruction have no fault at the front.
 pub no_fault-spelling : (a : Insn) (p : List ℕ) → FieldsFit a → (kind : DecodeKind) → HasDecodeFault kind (spelling a ++ p) → ⊥
 no_fault-spelling a p fits =
     let bytes = spelling a ++ p in

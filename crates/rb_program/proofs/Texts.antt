@@ -1,4 +1,4 @@
--- Hex text: the relation between digits and bytes is what the crate `hex` computes; and what a text's answer excludes.
+-- Hex text: the crate `hex` computes the relation between digits and bytes; and the results that a text excludes.
 use Rattle.std.proofs.Common.{◌≡◌, ℕ, ◌+◌, ◌-◌, ◌*◌, ◌%◌, ◌<◌, ◌≤◌, ◌⊎◌, inl, inr, Bool, true, false, cond, ◌&&◌, leb, eqb, List, [], ◌∷◌, length, Option, Some, None, Result, Ok, Err, refl, sym, ap, subst, ◌∙◌, arith}
 use Rattle.std.specs.Prelude.{IfOk, IfErr}
 use Rattle.std.proofs.lemmas.Bool.{leb-true, le-leb}
@@ -44,7 +44,7 @@ is_within a b c low high = let l = le-leb a c low in let h = le-leb c b high in 
 is_without : (a b c : ℕ) → (c < a) ⊎ (b < c) → (leb a c && leb c b) ≡ false
 is_without a b c out = not_true (leb a c && leb c b) (λ h. let parts = within a b c h in elim out [ inl low ↦ absurd (omega arith) | inr high ↦ absurd (omega arith) ])
 
--- the value of a digit, by the three tests
+-- the value of a digit, from the three tests
 from_tests : (a b d : Bool) (c : ℕ) (v : ℕ) → cond a (Some (c - 55)) (cond b (Some (c - 87)) (cond d (Some (c - 48)) None)) ≡ Some v
     → ((a ≡ true) × (c - 55 ≡ v)) ⊎ (((b ≡ true) × (c - 87 ≡ v)) ⊎ ((d ≡ true) × (c - 48 ≡ v)))
 from_tests true b d c v e = inl (refl, cc)
@@ -101,7 +101,7 @@ done x = Ok x
 ok_is : {A : Type 0} (x y : A) → done x ≡ done y → x ≡ y
 ok_is x y e = cc
 
--- one pair more
+-- the next pair
 pair_read : (i high low byte : ℕ) → pair_value high low i ≡ Ok byte → (h : ℕ) × (l : ℕ) × IsHexDigit high h × IsHexDigit low l × (byte ≡ 16 * h + l)
 pair_read i high low byte e =
     let first = bind_ok (value_at high i) (λ h. value_at low (i + 1) >>= λ l. Ok (h * 16 + l)) byte e in
@@ -155,7 +155,7 @@ not_odd : {A : Type 0} (b : Bool) (x y z : A) → cond b x y ≡ z → b ≡ fal
 not_odd true x y z e h = absurd cc
 not_odd false x y z e h = e
 
--- what the crate reads is what the digits are
+-- what the crate reads is what the digits encode
 odd_or_pairs : (b : Bool) (text bytes : List ℕ) → cond b (Err OddLength) (decode_pairs 0 text) ≡ Ok bytes → decode_pairs 0 text ≡ Ok bytes
 odd_or_pairs true text bytes e = absurd cc
 odd_or_pairs false text bytes e = e
@@ -166,11 +166,11 @@ decode_of-is_hex text bytes e = pairs_read 0 text bytes (odd_or_pairs (eqb (leng
 pub is_hex-decode_of : (text bytes : List ℕ) → IsHexOf text bytes → decode_of text ≡ Ok bytes
 is_hex-decode_of text bytes h = let e = even text bytes h in rw e (pairs_again 0 text bytes h)
 
--- the digits are those of one list of bytes
+-- the digits encode at most one list of bytes
 pub one_list_of_bytes : (text a b : List ℕ) → IsHexOf text a → IsHexOf text b → a ≡ b
 one_list_of_bytes text a b ha hb = ok_is a b (sym (is_hex-decode_of text a ha) ∙ is_hex-decode_of text b hb)
 
--- ---- the answer for a text
+-- ---- the result for a text
 
 pub record IsTextAnswer (digits : List ℕ) (answer : Result (List Insn) TextFault) : Type 0 where
   pub bounds : IfOk answer IsProgram

@@ -1,4 +1,4 @@
--- The units of a program as the type `Program` keeps them, and the list of instructions that contracts see in their place.
+-- The units of a program as the type `Program` stores them, and the list of instructions that contracts see instead.
 use Rattle.std.specs.Prelude.{◌≡◌, ◌-◌, ◌==◌, cond, List, [], ◌∷◌, ◌++◌, replicate, Option, Some, None}
 use Rattle.std.specs.List.{AllByRecursion}
 use Rattle.rb_insn.specs.declared.insn.Insn.{Insn}
@@ -7,13 +7,13 @@ use Rattle.rb_insn.specs.Spelling.{FieldsFit}
 use Rattle.rb_insn.specs.Units.{units_taken}
 use Rattle.rb_program.specs.Program.{IsProgram}
 
--- What is kept for each unit, in order: the instruction that begins there, and an EXIT that says nothing at the second unit of
--- a wide one.
+-- What is stored for each unit, in order: the instruction that begins there, or a placeholder EXIT at the second unit
+-- of a wide one.
 abbrev pub kept_units : List Insn → List Insn
 kept_units [] = []
 kept_units (insn ∷ insns) = (insn ∷ replicate (units_taken insn - 1) Exit) ++ kept_units insns
 
--- what is at each unit, behind a unit that keeps `before`: nothing where that is wide
+-- what begins at each unit, where `before` is the unit stored before the first: nothing if that is wide
 abbrev pub slots_behind : Insn → List Insn → List (Option Insn)
 slots_behind before [] = []
 slots_behind before (insn ∷ units) = cond (units_taken before == 2) None (Some insn) ∷ slots_behind insn units
@@ -24,11 +24,11 @@ insns_in [] = []
 insns_in (Some insn ∷ units) = insn ∷ insns_in units
 insns_in (None ∷ units) = insns_in units
 
--- the instructions of which these units are kept
+-- the instructions that these stored units represent
 abbrev pub insns_kept : List Insn → List Insn
 insns_kept units = insns_in (slots_behind Exit units)
 
--- what a program keeps of its units
+-- the invariant of a program's stored units
 pub record AreUnits (units : List Insn) : Type 0 where
   pub laid_out : kept_units (insns_kept units) ≡ units
   pub bounds : IsProgram (insns_kept units)

@@ -1,4 +1,4 @@
--- The first fault of bytes that are no program.
+-- The first fault of bytes that are not a program.
 use Rattle.std.specs.Prelude.{◌≡◌, ◌≢◌, ℕ, ◌*◌, ◌%◌, ◌<◌, List, [], ◌++◌, length, take, drop, ◌⊎◌}
 use Rattle.rb_insn.specs.declared.insn.Insn.{Insn}
 use Rattle.rb_insn.specs.Spelling.{Spells, SpellsAll}
@@ -8,7 +8,7 @@ use Rattle.rb_program.specs.declared.fault.DecodeFault.{DecodeFault}
 use Rattle.rb_program.specs.DecodeFaults.{IsFirstKind}
 use Rattle.rb_program.specs.Program.{IsProgram}
 
--- no bytes, or no whole number of units
+-- no bytes, or an incomplete last unit
 abbrev pub HasBadLength : List ℕ → Type 0
 HasBadLength bytes = (bytes ≡ []) ⊎ (length bytes % 8 ≢ 0)
 
@@ -16,7 +16,8 @@ HasBadLength bytes = (bytes ≡ []) ⊎ (length bytes % 8 ≢ 0)
 abbrev pub HasTooManyUnits : List ℕ → Type 0
 HasTooManyUnits bytes = 8 * 4096 < length bytes
 
--- The unit follows the longest front of the bytes that is whole spellings, and the kind is the first that is there.
+-- The unit follows the longest prefix of the bytes that consists of whole instructions, and the kind is the first one
+-- there.
 pub record IsFaultAt (bytes : List ℕ) (unit : ℕ) (kind : DecodeKind) : Type 0 where
   pub within : 8 * unit < length bytes
   pub front : List Insn
@@ -24,8 +25,8 @@ pub record IsFaultAt (bytes : List ℕ) (unit : ℕ) (kind : DecodeKind) : Type 
   pub longest : (insn : Insn) (spelling rest : List ℕ) → Spells insn spelling → drop (8 * unit) bytes ≡ spelling ++ rest → ⊥
   pub first : IsFirstKind kind (drop (8 * unit) bytes)
 
--- The fault is the first one of the bytes: a bad length before all, then too many units, then that behind the longest
--- front of whole spellings. Out of memory is no fault of the bytes.
+-- The first fault of the bytes: a bad length precedes all others, then too many units, then the fault after the longest
+-- prefix of whole instructions. A failed allocation is not a fault of the bytes.
 abbrev pub IsFirstFaultAt : List ℕ → ℕ → DecodeKind → Type 0
 IsFirstFaultAt bytes unit Length = (unit ≡ 0) × HasBadLength bytes
 IsFirstFaultAt bytes unit TooLong = (unit ≡ 4096) × HasTooManyUnits bytes × (HasBadLength bytes → ⊥)
@@ -35,16 +36,16 @@ IsFirstFaultAt bytes unit kind = IsFaultAt bytes unit kind × (HasBadLength byte
 abbrev pub IsFirstDecodeFault : List ℕ → DecodeFault → Type 0
 IsFirstDecodeFault bytes fault = IsFirstFaultAt bytes fault.unit fault.kind
 
--- out of memory, at unit 0
+-- a failed allocation, at unit 0
 abbrev pub decode_no_memory : DecodeFault
 decode_no_memory = record { unit = 0; kind = Memory }
 
 -- ---- laws
 
--- bytes that spell a program have no fault
+-- bytes that encode a program have no fault
 abbrev pub ProgramsHaveNoFault : Type 0
 ProgramsHaveNoFault = (program : List Insn) (bytes : List ℕ) (fault : DecodeFault) → IsProgram program → SpellsAll program bytes → IsFirstDecodeFault bytes fault → ⊥
 
--- bytes have one first fault at most
+-- bytes have at most one first fault
 abbrev pub FaultsAreUnique : Type 0
 FaultsAreUnique = (bytes : List ℕ) (a b : DecodeFault) → IsFirstDecodeFault bytes a → IsFirstDecodeFault bytes b → a ≡ b

@@ -1,5 +1,5 @@
--- The rows of the instructions: their opcodes, and what each allows in its fields (the tables of RFC 9669, sections 4 and
--- 5, without what this project leaves out).
+-- The rows of the opcode table: their opcodes, and what each allows in its fields (the tables of RFC 9669, sections 4
+-- and 5, without what this project does not support).
 use Rattle.std.specs.Prelude.{ℕ, ◌+◌, ◌*◌, Bool, true, false, ◌==◌, ◌&&◌, ◌||◌, List, [], ◌∷◌, ◌++◌, map, Option, Some, None, if◌then◌else◌}
 use Rattle.rb_program.specs.declared.fields.Fields.{Fields}
 
@@ -11,14 +11,15 @@ pub data Allowed : Type 0 where
   any : Allowed
   -- one of these numbers
   only : List ℕ → Allowed
-  -- One of these numbers, and they are part of the row's name: with another, the bytes are in no row.
+  -- One of these numbers, as part of the row's name: with any other number, the bytes are in no row.
   named : List ℕ → Allowed
 
--- no use: zero
+-- not used: zero
 abbrev pub unused : Allowed
 unused = only (0 ∷ [])
 
--- A row: its opcodes; what it allows in the fields of its first unit; for a wide instruction, in its next immediate.
+-- A row: its opcodes, what it allows in the fields of its first unit, and what a wide instruction allows in its second
+-- immediate.
 pub record Row : Type 0 where
   pub opcodes : List ℕ
   pub dst : Allowed
@@ -33,7 +34,8 @@ row opcodes dst src offset imm = record { opcodes = opcodes; dst = dst; src = sr
 abbrev wide_row : List ℕ → Allowed → Allowed → Allowed → Allowed → Allowed → Row
 wide_row opcodes dst src offset imm next = record { opcodes = opcodes; dst = dst; src = src; offset = offset; imm = imm; next = Some next }
 
--- ---- opcodes: the code in the high four bits, the source bit (0, the immediate, K; 8, the source register, X), the class
+-- ---- opcodes: the code in the high four bits, the source bit (0 for the immediate, K; 8 for the source register, X),
+-- the class
 
 abbrev opcodes_of : List ℕ → ℕ → ℕ → List ℕ
 opcodes_of codes source class = map (λ code. 16 * code + source + class) codes
@@ -66,7 +68,7 @@ binary_k_row = row (arithmetic binary_codes 0) register unused unused any
 abbrev pub binary_x_row : Row
 binary_x_row = row (arithmetic binary_codes 8) register register unused unused
 
--- offset 1: signed
+-- offset 1 is signed
 abbrev pub division_k_row : Row
 division_k_row = row (arithmetic division_codes 0) register unused (only (0 ∷ 1 ∷ [])) any
 
@@ -79,7 +81,7 @@ neg_row = row (0x84 ∷ 0x87 ∷ []) register unused unused unused
 abbrev pub mov_k_row : Row
 mov_k_row = row (0xb4 ∷ 0xb7 ∷ []) register unused unused any
 
--- another offset than 0: that many low bits, sign-extended
+-- an offset other than 0 is the number of low bits to sign-extend
 abbrev pub mov_x_32_row : Row
 mov_x_32_row = row (0xbc ∷ []) register register (only (0 ∷ 8 ∷ 16 ∷ [])) unused
 
@@ -144,11 +146,11 @@ abbrev is_named : Allowed → ℕ → Bool
 is_named (named numbers) n = one_of numbers n
 is_named allowed n = true
 
--- the unit is in the row: it has an opcode of the row, and the other numbers of its name
+-- the unit is in the row: it has one of the row's opcodes, and the other numbers of its name
 abbrev pub is_in_row : Row → Fields → Bool
 is_in_row r fields = one_of r.opcodes fields.opcode && is_named r.src fields.src && is_named r.imm fields.imm
 
--- the row that a unit is in: no unit is in two
+-- the row that a unit is in; no unit is in two
 abbrev pub find_row : List Row → Fields → Option Row
 find_row [] fields = None
 find_row (r ∷ rows) fields = if is_in_row r fields then Some r else find_row rows fields

@@ -1,4 +1,4 @@
--- What a program without a fault is like.
+-- Properties of well-shaped programs.
 use Rattle.std.specs.Prelude.{◌≡◌, ℕ, ◌+◌, ◌<◌, ℤ, true, List, Some}
 use Rattle.rb_insn.specs.declared.insn.Insn.{Insn}
 use Rattle.rb_insn.specs.Units.{units_taken}
@@ -10,11 +10,11 @@ use Rattle.rb_program.specs.ShapeFaults.{HasNoFault}
 abbrev pub IsInstructionStart : List Insn → ℕ → Type 0
 IsInstructionStart program unit = (insn : Insn) × (slot_at program unit ≡ Some insn)
 
--- a path leads to each instruction from the first unit
+-- each instruction is reachable from the first unit
 abbrev pub AllIsReached : List Insn → Type 0
 AllIsReached program = (unit : ℕ) → IsInstructionStart program unit → IsReached program unit
 
--- the program has no fault; that none is unreachable follows from the paths, too
+-- the program has no fault; that no instruction is unreachable follows, too, from the paths
 pub record IsWellShaped (program : List Insn) : Type 0 where
   pub no_fault : (unit : ℕ) → HasNoFault program unit
   pub reached : AllIsReached program
@@ -24,12 +24,12 @@ abbrev pub EdgesLeadForward : List Insn → Type 0
 EdgesLeadForward program =
     (from : ℕ) (along : Edge) (to : ℕ) → HasEdge program from along to → (from < to) × IsInstructionStart program to
 
--- behind each instruction that may go on another one begins
+-- if execution may continue after an instruction, another one begins there
 abbrev pub NothingFallsOff : List Insn → Type 0
 NothingFallsOff program =
     (unit : ℕ) (insn : Insn) → slot_at program unit ≡ Some insn → falls_through insn ≡ true → IsInstructionStart program (unit + units_taken insn)
 
--- each jump has a target, a unit of the program
+-- each jump has a target unit
 abbrev pub JumpsLand : List Insn → Type 0
 JumpsLand program =
     (unit : ℕ) (insn : Insn) (distance : ℤ) → slot_at program unit ≡ Some insn → distance_of insn ≡ Some distance

@@ -1,4 +1,4 @@
--- What is wrong with the shape of a program. The profile has no jump back and no instruction that is not reached (own).
+-- The faults in the shape of a program. The profile allows no backward jump and no unreachable instruction (own).
 use Rattle.std.specs.Prelude.{◌≡◌, ℕ, ◌<◌, ◌≤◌, ℤ, pos, ◌<ℤ◌, List, Some, None}
 use Rattle.rb_insn.specs.declared.insn.Insn.{Insn}
 use Rattle.rb_program.specs.Program.{unit_count, slot_at}
@@ -7,11 +7,11 @@ use Rattle.rb_program.specs.declared.shape_fault.ShapeFaultKind.{ShapeFaultKind}
 use Rattle.rb_program.specs.declared.shape_fault.ShapeFaultKind.TheVariants.{Backward, OutOfProgram, IntoWide, FallsOff, Unreachable, Memory}
 use Rattle.rb_program.specs.Edges.{Next, Target, distance_of, HasEdge, IsReached}
 
--- the instruction jumps by a distance below 0
+-- the instruction jumps by a negative distance
 abbrev pub JumpsBack : Insn → Type 0
 JumpsBack insn = (distance : ℤ) × (distance_of insn ≡ Some distance) × (distance <ℤ pos 0)
 
--- the instruction at a unit has a fault of this kind; out of memory is no fault of a unit
+-- the instruction at a unit has a fault of this kind; a failed allocation is not a fault of a unit
 abbrev pub HasShapeFault : List Insn → ℕ → ShapeFaultKind → Type 0
 HasShapeFault program unit Backward = (insn : Insn) × (slot_at program unit ≡ Some insn) × JumpsBack insn
 HasShapeFault program unit OutOfProgram = (to : ℕ) × HasEdge program unit Target to × (unit_count program ≤ to)
@@ -20,7 +20,7 @@ HasShapeFault program unit FallsOff = (to : ℕ) × HasEdge program unit Next to
 HasShapeFault program unit Unreachable = (insn : Insn) × (slot_at program unit ≡ Some insn) × (IsReached program unit → ⊥)
 HasShapeFault program unit Memory = ⊥
 
--- the order of the kinds at one unit
+-- the precedence of the kinds at one unit
 abbrev pub fault_order : ShapeFaultKind → ℕ
 fault_order Backward = 1
 fault_order OutOfProgram = 2
@@ -33,7 +33,7 @@ fault_order Memory = 6
 abbrev pub HasNoFault : List Insn → ℕ → Type 0
 HasNoFault program unit = (kind : ShapeFaultKind) → HasShapeFault program unit kind → ⊥
 
--- the unit has the fault, and none of a lower rank
+-- the unit has a fault of this kind, and none of a kind that precedes it
 pub record IsFirstFaultHere (program : List Insn) (unit : ℕ) (kind : ShapeFaultKind) : Type 0 where
   pub stands : HasShapeFault program unit kind
   pub lowest : (other : ShapeFaultKind) → fault_order other < fault_order kind → HasShapeFault program unit other → ⊥
@@ -43,6 +43,6 @@ pub record IsFirstShapeFault (program : List Insn) (fault : ShapeFault) : Type 0
   pub here : IsFirstFaultHere program fault.unit fault.kind
   pub none_before : (lower : ℕ) → lower < fault.unit → HasNoFault program lower
 
--- out of memory, at unit 0
+-- a failed allocation, at unit 0
 abbrev pub shape_no_memory : ShapeFault
 shape_no_memory = record { unit = 0; kind = Memory }

@@ -1,4 +1,4 @@
--- The fault of a text for a fault of its digits or of its bytes.
+-- Converts faults of the hex decoder and of the program decoder to faults of a text.
 use Rattle.hex.specs.declared.error.FromHexError.{FromHexError}
 use Rattle.hex.specs.declared.error.FromHexError.TheVariants.{OutOfMemory}
 use Rattle.rb_program.specs.declared.fault.DecodeKind.{DecodeKind}

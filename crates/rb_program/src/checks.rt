@@ -1,4 +1,4 @@
-//! What the decoder checks of an operation's fields, and the instruction that it makes of them.
+//! The decoder's checks on the fields of an operation, and the instruction that it builds from them.
 
 ghost use Rattle.std.specs.Prelude.{◌≡◌, ◌≤◌, ◌==◌, ◌||◌, ℕ, true, is_some};
 ghost use Rattle.rb_program.specs.inner.FieldChecks.{
@@ -26,7 +26,7 @@ use crate::opcode_meaning::{OpcodeMeaning, SourceOperand};
 use rb_insn::{Extend32, Extend64, Insn, Operand, Reg, Signedness, SwapWidth, Width};
 
 impl OpcodeMeaning {
-    /// Whether the source field and the immediate name an instruction, where the opcode alone does not.
+    /// Whether the source field and the immediate select an instruction, if the opcode alone does not.
     pub(crate) fn is_named_by(self, fields: &Fields) -> bool
         ensures { result ≡ is_named_by self fields.now }
     {
@@ -38,7 +38,7 @@ impl OpcodeMeaning {
         }
     }
 
-    /// Whether the destination field is a register.
+    /// Whether the destination field holds a register.
     fn has_dst(self) -> bool
         ensures { (src : ℕ) → result ≡ is_register (row_for self src).dst }
     {
@@ -51,7 +51,7 @@ impl OpcodeMeaning {
         }
     }
 
-    /// Whether the source field is a register.
+    /// Whether the source field holds a register.
     fn has_src(self) -> bool
         ensures { (src : ℕ) → result ≡ is_register (row_for self src).src }
     {
@@ -70,14 +70,14 @@ impl OpcodeMeaning {
         }
     }
 
-    /// Whether the fields that are registers are 0 to 10.
+    /// Whether the fields that hold registers are 0 to 10.
     pub(crate) fn has_registers(self, fields: &Fields) -> bool
         ensures { result ≡ registers_fit (row_for self fields.now.src) fields.now }
     {
         (!self.has_dst() || fields.dst <= 10) && (!self.has_src() || fields.src <= 10)
     }
 
-    /// Whether the offset is one that the operation allows.
+    /// Whether the operation allows this offset.
     fn allows_offset(self, offset: u16) -> bool
         ensures { (src : ℕ) → result ≡ fits_unused (row_for self src).offset offset }
     {
@@ -99,7 +99,7 @@ impl OpcodeMeaning {
         }
     }
 
-    /// Whether the immediate is used.
+    /// Whether the operation uses the immediate.
     fn has_imm(self) -> bool
         ensures { (src : ℕ) (imm : ℕ) → fits_unused (row_for self src).imm imm ≡ (result || (imm == 0)) }
     {
@@ -120,8 +120,9 @@ impl OpcodeMeaning {
         }
     }
 
-    /// Whether the other fields have numbers that the operation allows: zero where it does not use them. The source field of
-    /// a wide instruction is looked at by its name.
+    /// Whether the other fields have values that the operation allows: zero if it does not use them.
+    ///
+    /// The source field of a wide instruction is already checked by `is_named_by`.
     pub(crate) fn has_numbers(self, fields: &Fields) -> bool
         requires { is_named_by self fields.now ≡ true }
         ensures { result ≡ numbers_fit (row_for self fields.now.src) fields.now }
@@ -141,7 +142,7 @@ impl OpcodeMeaning {
         }
     }
 
-    /// The instruction of an operation with these fields, and this next immediate where it is wide.
+    /// Returns the instruction of an operation with these fields; `next_imm` is the second immediate of a wide one.
     pub(crate) fn insn(self, fields: &Fields, next_imm: u32) -> Insn
         requires { registers_fit (row_for self fields.now.src) fields.now ≡ true }
         ensures { result ≡ insn_from self fields.now next_imm }
@@ -165,7 +166,7 @@ impl OpcodeMeaning {
         }
     }
 
-    /// The instruction of an operation of the classes ALU and ALU64.
+    /// Returns the instruction of an operation in class ALU or ALU64.
     fn arithmetic_insn(self, fields: &Fields) -> Insn
         requires class { IsAluOperation self }
         requires registers { registers_fit (row_for self fields.now.src) fields.now ≡ true }
@@ -205,7 +206,7 @@ impl OpcodeMeaning {
         }
     }
 
-    /// The instruction of an operation of the classes JMP and JMP32.
+    /// Returns the instruction of an operation in class JMP or JMP32.
     fn jump_insn(self, fields: &Fields) -> Insn
         requires class { IsJumpOperation self }
         requires registers { registers_fit (row_for self fields.now.src) fields.now ≡ true }
@@ -231,7 +232,7 @@ impl OpcodeMeaning {
         }
     }
 
-    /// The instruction of a load or a store.
+    /// Returns the instruction of a load or a store.
     fn access_insn(self, fields: &Fields) -> Insn
         requires class { IsAccessOperation self }
         requires registers { registers_fit (row_for self fields.now.src) fields.now ≡ true }
@@ -267,7 +268,7 @@ impl OpcodeMeaning {
     }
 }
 
-/// The register of a number.
+/// Returns the register with this number.
 fn register(number: u8) -> Reg
     requires { number ≤ 10 }
     ensures { result ≡ reg_at number }
@@ -275,7 +276,7 @@ fn register(number: u8) -> Reg
     Reg { number }
 }
 
-/// The second operand, from its source.
+/// Returns the second operand, given where it is.
 fn operand(source: SourceOperand, fields: &Fields) -> Operand
     requires { source ≡ SourceOperand.Register → fields.now.src ≤ 10 }
     ensures { result ≡ operand_from source fields.now }
@@ -286,7 +287,7 @@ fn operand(source: SourceOperand, fields: &Fields) -> Operand
     }
 }
 
-/// Whether a division of this offset is signed.
+/// Returns whether a division with this offset is signed.
 fn sign(offset: u16) -> Signedness
     ensures { result ≡ sign_from offset }
 {
@@ -297,7 +298,7 @@ fn sign(offset: u16) -> Signedness
     }
 }
 
-/// A move between registers in the class ALU.
+/// Returns the move between registers in class ALU.
 fn move32(fields: &Fields) -> Insn
     requires dst { fields.now.dst ≤ 10 }
     requires src { fields.now.src ≤ 10 }
@@ -324,7 +325,7 @@ fn move32(fields: &Fields) -> Insn
     }
 }
 
-/// A move between registers in the class ALU64.
+/// Returns the move between registers in class ALU64.
 fn move64(fields: &Fields) -> Insn
     requires dst { fields.now.dst ≤ 10 }
     requires src { fields.now.src ≤ 10 }
@@ -356,7 +357,7 @@ fn move64(fields: &Fields) -> Insn
     }
 }
 
-/// How many bits a byte swap of this immediate works on.
+/// Returns how many bits a byte swap with this immediate works on.
 fn swap_width(imm: u32) -> SwapWidth
     ensures { result ≡ swap_width_from imm }
 {
@@ -367,7 +368,7 @@ fn swap_width(imm: u32) -> SwapWidth
     }
 }
 
-/// A wide instruction.
+/// Returns a wide instruction.
 fn wide(fields: &Fields, next_imm: u32) -> Insn
     requires { fields.now.dst ≤ 10 }
     ensures { result ≡ wide_from fields.now next_imm }

@@ -1,4 +1,4 @@
-//! Bytes to programs and back.
+//! Decodes bytes to programs, and encodes programs as bytes.
 
 ghost use Rattle.std.specs.Prelude.{◌≡◌, ◌⊎◌, ◌++◌, ◌∷◌, [], List, Ok, Err, IfOk, IfErr, OnOk};
 ghost use Rattle.rb_insn.specs.declared.insn.Insn.{Insn};
@@ -15,7 +15,7 @@ use crate::program::{MAX_UNITS, Program};
 use rb_insn::Insn;
 use std::alloc::{AllocError, Global};
 
-/// Adds an instruction behind the others.
+/// Appends an instruction to the units.
 fn push_insn(units: &mut Vec<Insn>, insn: Insn) -> Result<(), AllocError>
     ensures { OnOk result (units.new.items ≡ units.old.items ++ kept_units (insn ∷ [])) }
 {
@@ -26,7 +26,8 @@ fn push_insn(units: &mut Vec<Insn>, insn: Insn) -> Result<(), AllocError>
     Ok(())
 }
 
-/// The units of the program that the bytes spell, as the program keeps them; or the bytes' first fault, or out of memory.
+/// Returns the units of the program that the bytes encode, in the form that `Program` stores. An error is the first
+/// fault of the bytes, or a failed allocation.
 fn decode_units(alloc: Global, bytes: &[u8]) -> Result<Vec<Insn>, DecodeFault>
     ensures kept { IfOk result (λ units. AreUnits units.items) }
     ensures spelled { IfOk result (λ units. SpellsAll (insns_kept units.items) bytes.now) }
@@ -61,17 +62,16 @@ fn decode_units(alloc: Global, bytes: &[u8]) -> Result<Vec<Insn>, DecodeFault>
     Ok(units)
 }
 
-/// The program that the bytes spell, and their first fault where they spell none. Out of memory may come in place of
-/// either.
+/// Returns the program that the bytes encode, or their first fault if they encode none.
 ///
-/// One pass over the bytes: each unit is looked at once.
+/// A failed allocation may replace either result. Makes one pass over the bytes and visits each unit once.
 pub fn decode(alloc: Global, bytes: &[u8]) -> Result<Program, DecodeFault>
-    // What is answered is spelled by the bytes, and a program that they spell is answered.
+    // The bytes encode the returned program, and a program that they encode is returned.
     ensures spelled { IfOk result (λ program. SpellsAll program bytes.now) }
     ensures only_program { (program : List Insn) → IsProgram program → SpellsAll program bytes.now
         → (result ≡ Ok program) ⊎ (result ≡ Err decode_no_memory) }
 
-    // A fault is the first one, and where there is one it is answered.
+    // A returned fault is the first one, and if the bytes have a first fault, it is returned.
     ensures fault { IfErr result (λ fault. (fault ≡ decode_no_memory) ⊎ IsFirstDecodeFault bytes.now fault) }
     ensures only_fault { (fault : DecodeFault) → IsFirstDecodeFault bytes.now fault
         → (result ≡ Err fault) ⊎ (result ≡ Err decode_no_memory) }
@@ -80,7 +80,7 @@ pub fn decode(alloc: Global, bytes: &[u8]) -> Result<Program, DecodeFault>
     Ok(Program::from_units(units))
 }
 
-/// The bytes that the program spells, 8 for each of its units. One pass over the program.
+/// Returns the encoding of a program, 8 bytes for each of its units. Makes one pass over the program.
 pub fn encode(alloc: Global, program: &Program) -> Result<Vec<u8>, AllocError>
     ensures { IfOk result (λ bytes. SpellsAll program.now bytes.items) }
 {
@@ -95,8 +95,9 @@ pub fn encode(alloc: Global, program: &Program) -> Result<Vec<u8>, AllocError>
     Ok(bytes)
 }
 
-/// What decoding rests on: bytes that spell a program have no fault, and bytes have one first fault at most. For the proofs
-/// of callers; it does nothing.
+/// The laws of decoding: bytes that encode a program have no fault, and bytes have at most one first fault.
+///
+/// For the proofs of callers; it does nothing at run time.
 pub fn decoding_laws()
     ensures no_fault { ProgramsHaveNoFault }
     ensures unique { FaultsAreUnique }

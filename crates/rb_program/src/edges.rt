@@ -1,4 +1,4 @@
-//! Where the edges of an instruction lead.
+//! The edges of an instruction in the control-flow graph.
 
 ghost use Rattle.std.specs.Prelude.{◌≡◌, ◌^◌, ◌<◌, IfSome, FitsSigned};
 ghost use Rattle.std.specs.Int.{w32};
@@ -8,8 +8,10 @@ use rb_insn::Insn;
 
 #[inline(always)]
 #[tactic(auto, unfolding(crate::specs::Edges::edge_target))]
-/// The unit behind the instruction at `unit`, where it may go on to it: none for EXIT and for an unconditional jump (RFC 9669,
-/// section 4.3). A wide instruction takes two units. The unit may lie past the end of the program.
+/// Returns the unit after the instruction at `unit`, or `None` if execution can't continue there: for EXIT and for an
+/// unconditional jump (RFC 9669, section 4.3).
+///
+/// A wide instruction takes two units. The returned unit may be past the end of the program.
 pub fn next_unit(unit: u32, insn: &Insn) -> Option<u32>
     requires { unit < 2 ^ 31 }
     ensures { result ≡ edge_target unit insn.now Next }
@@ -22,8 +24,10 @@ pub fn next_unit(unit: u32, insn: &Insn) -> Option<u32>
 
 #[inline(always)]
 #[tactic(auto, unfolding(crate::specs::Edges::edge_target))]
-/// The unit to which the instruction at `unit` jumps, its unit plus 1 plus the distance (RFC 9669, section 4.3): none where it is
-/// no jump, and none where that number is below 0. The unit may lie past the end of the program.
+/// Returns the unit that the instruction at `unit` jumps to: `unit` plus 1 plus the distance (RFC 9669, section 4.3).
+///
+/// Returns `None` if the instruction is not a jump, or if that number is negative. The returned unit may be past the
+/// end of the program.
 pub fn jump_target(unit: u32, insn: &Insn) -> Option<u32>
     requires { unit < 2 ^ 31 }
     ensures { result ≡ edge_target unit insn.now Target }
@@ -32,7 +36,7 @@ pub fn jump_target(unit: u32, insn: &Insn) -> Option<u32>
     u32::try_from(i64::from(unit) + 1 + distance).ok()
 }
 
-/// How far the instruction jumps, in units from the one after it: none where it is no jump.
+/// Returns how far the instruction jumps, in units from the one after it, or `None` if it is not a jump.
 pub(crate) fn distance(insn: &Insn) -> Option<i64>
     ensures value { result ≡ distance_of insn.now }
     ensures bounds { IfSome result (FitsSigned w32) }

@@ -1,52 +1,54 @@
-//! Why bytes are no program.
+//! Why bytes or text are not a program.
 
 use hex::FromHexError;
 use std::alloc::{AllocError, AllocFailed};
 use thiserror::Error;
 
-/// What is wrong with bytes that are no program, in the order in which faults of one unit are returned.
+/// The kinds of decode faults, in the order of their precedence within one unit.
 #[derive(Clone, Copy, Debug, PartialEq, Eq, Error)]
 pub enum DecodeKind {
-    /// There are no bytes, or their number is no multiple of 8.
+    /// There are no bytes, or their number is not a multiple of 8.
     #[error("bad length")]
     Length,
     /// There are more than 4096 units.
     #[error("too long")]
     TooLong,
-    /// An instruction that this project leaves out: packet access, atomics, calls by register, program-local calls, calls by
-    /// BTF number, and loads of addresses other than a map by its index.
+    /// An instruction that this project does not support: packet access, atomics, calls by register, program-local
+    /// calls, calls by BTF number, and loads of addresses other than a map by its index.
     #[error("instruction left out")]
     LeftOut,
-    /// An opcode that no instruction has.
+    /// An opcode that belongs to no instruction.
     #[error("bad opcode")]
     BadOpcode,
-    /// A register above 10.
+    /// A register number above 10.
     #[error("bad register")]
     BadRegister,
-    /// A field that the instruction does not use, or whose value it does not allow.
+    /// A field that the instruction does not use is not zero, or a field has a value that the instruction does not
+    /// allow.
     #[error("unused field is set")]
     UnusedField,
-    /// A wide instruction without its second unit.
+    /// A wide instruction whose second unit is missing.
     #[error("half a wide instruction")]
     HalfWide,
-    /// There was no memory for the program.
+    /// Memory for the program could not be allocated.
     #[error("out of memory")]
     Memory,
 }
 
-/// The first fault of bytes that are no program: at the lowest unit, and there the first kind. Out of memory has
-/// unit 0.
+/// The first fault of bytes that are not a program: the first kind at the lowest unit that has a fault.
+///
+/// A failed allocation is reported at unit 0.
 #[derive(Clone, Copy, Debug, PartialEq, Eq, Error)]
 #[error("unit {unit}: {kind}")]
 pub struct DecodeFault {
-    /// The unit, counted from 0.
+    /// The unit of the fault, counted from 0.
     pub unit: u32,
-    /// What is wrong there.
+    /// The kind of the fault.
     pub kind: DecodeKind,
 }
 
 impl DecodeFault {
-    /// Out of memory, at unit 0.
+    /// A failed allocation, at unit 0.
     pub const NO_MEMORY: DecodeFault = DecodeFault {
         unit: 0,
         kind: DecodeKind::Memory,
@@ -75,16 +77,16 @@ impl<T: Drop> From<AllocFailed<T>> for DecodeFault {
     }
 }
 
-/// Why text is no program.
+/// Why a text is not a program.
 #[derive(Clone, Copy, Debug, PartialEq, Eq, Error)]
 pub enum TextFault {
-    /// The text without its white space is not wholly pairs of hex digits.
+    /// The text, without its white space, is not a sequence of pairs of hex digits.
     #[error("not pairs of hex digits")]
     NotHex,
-    /// There was no memory for the bytes or the program.
+    /// Memory for the bytes or the program could not be allocated.
     #[error("out of memory")]
     Memory,
-    /// The bytes are no program.
+    /// The bytes are not a program.
     #[error("{0}")]
     Decode(DecodeFault),
 }

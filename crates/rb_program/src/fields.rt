@@ -5,7 +5,7 @@ ghost use Rattle.rb_program.specs.UnitFields.{fields_at, next_imm_at};
 
 use byteorder::{ByteOrder, LittleEndian};
 
-/// The fields of a unit. The offset and the immediate are the numbers that stand there, without a sign.
+/// The fields of a unit. The offset and the immediate are read as unsigned numbers.
 #[derive(Clone, Copy)]
 pub(crate) struct Fields {
     pub opcode: u8,
@@ -15,7 +15,7 @@ pub(crate) struct Fields {
     pub imm: u32,
 }
 
-/// Reads the unit at the front.
+/// Reads the fields of the first unit of `bytes`.
 pub(crate) fn read_fields(bytes: &[u8]) -> Fields
     requires { 8 ≤ length bytes.now }
     ensures { result ≡ fields_at bytes.now }
@@ -30,7 +30,7 @@ pub(crate) fn read_fields(bytes: &[u8]) -> Fields
     }
 }
 
-/// Reads the immediate of the second unit, behind the unit at the front.
+/// Reads the immediate of the second unit of `bytes`.
 pub(crate) fn read_next_imm(bytes: &[u8]) -> u32
     requires { 16 ≤ length bytes.now }
     ensures { result ≡ next_imm_at bytes.now }

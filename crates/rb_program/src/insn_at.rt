@@ -1,4 +1,4 @@
-//! The instruction that begins at a unit.
+//! Decodes the instruction that begins at a unit.
 
 ghost use Rattle.std.specs.Prelude.{◌≡◌, ◌≢◌, ◌≤◌, ◌<◌, ◌*◌, length, take, slice_index, IfOk, IfErr};
 ghost use Rattle.rb_insn.specs.Spelling.{Spells};
@@ -11,7 +11,7 @@ use crate::fields::{Fields, read_fields, read_next_imm};
 use crate::opcode_meaning::OpcodeMeaning;
 use rb_insn::Insn;
 
-/// Whether the unit is an instruction that this project leaves out.
+/// Whether the unit is an instruction that this project does not support.
 fn is_left_out(fields: &Fields) -> bool
     ensures { result ≡ is_left_out_of fields.now }
 {
@@ -23,7 +23,7 @@ fn is_left_out(fields: &Fields) -> bool
     }
 }
 
-/// Whether zeros stand before the next immediate of the wide instruction at the front.
+/// Whether the bytes before the second immediate of the wide instruction at the front are zero.
 fn has_zeros(bytes: &[u8]) -> bool
     requires { 16 ≤ length bytes.now }
     ensures { result ≡ has_zeros_at bytes.now }
@@ -31,7 +31,7 @@ fn has_zeros(bytes: &[u8]) -> bool
     bytes[8] == 0 && bytes[9] == 0 && bytes[10] == 0 && bytes[11] == 0
 }
 
-/// The next immediate of the wide instruction at the front.
+/// Returns the second immediate of the wide instruction at the front.
 fn second_unit(bytes: &[u8], src: u8) -> Result<u32, DecodeKind>
     ensures ok { IfOk result (IsSecondUnit bytes.now src) }
     ensures err { IfErr result (IsSecondFault bytes.now src) }
@@ -47,7 +47,7 @@ fn second_unit(bytes: &[u8], src: u8) -> Result<u32, DecodeKind>
     }
 }
 
-/// The instruction that begins at the front of the bytes, or the first fault there.
+/// Returns the instruction at the front of the bytes, or the first fault there.
 pub(crate) fn insn_at(bytes: &[u8]) -> Result<Insn, DecodeKind>
     requires { 8 ≤ length bytes.now }
     ensures within { IfOk result (λ insn. 8 * units_taken insn ≤ length bytes.now) }

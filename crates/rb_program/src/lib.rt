@@ -1,12 +1,16 @@
-//! eBPF programs: bytes or hex text to a list of instructions and back (RFC 9669), and the shape of their control flow, for hosts that load
-//! programs. `decode` returns the only program that the bytes spell, or their first fault: the lowest unit, and there the first kind of
-//! `DecodeKind`. `encode` returns the bytes of a program, and `from_text` reads pairs of hex digits between white space.
-//! The table of opcodes and of the fields that each may use is `specs/OpcodeTable.antt`. A `Program` has 1 to 4096 units
-//! of eight bytes as a fact of its type.
+//! eBPF programs: decodes bytes or hex text to a list of instructions and encodes it again (RFC 9669), and checks the
+//! shape of its control flow. For hosts that load programs.
 //!
-//! `shape` returns a `Shape` exactly where every jump leads forward to an instruction, each instruction is reached from the first, and none falls
-//! off the end; else the first fault by unit and kind. So a well-shaped program ends. `next_unit` and `jump_target` are the two edges of an
-//! instruction, counted from the unit behind it (RFC 9669, section 4.3); the rules on shape are those of the kernel's first verifier, without loops.
+//! `decode` returns the only program that the bytes encode, or their first fault: the first kind of `DecodeKind` at the
+//! lowest unit that has a fault. `encode` returns the bytes of a program, and `from_text` reads pairs of hex digits
+//! with white space between them. `specs/OpcodeTable.antt` lists the opcodes and the fields that each may use. A
+//! `Program` has 1 to 4096 units of 8 bytes, by its type invariant.
+//!
+//! `shape` returns a `Shape` if every jump leads forward to an instruction, every instruction is reachable from the
+//! first, and none falls off the end; otherwise it returns the first fault by unit and kind. A well-shaped program
+//! therefore terminates. `next_unit` and `jump_target` return the two edges of an instruction; jump distances count
+//! from the unit after it (RFC 9669, section 4.3). The rules on shape are those of the kernel's first verifier, which
+//! allowed no loops.
 #![tactic(auto)]
 
 mod checks;

@@ -1,4 +1,4 @@
-//! What an opcode does, before its registers and numbers are known (RFC 9669, sections 3.3, 4 and 5).
+//! What an opcode does, before the registers and the numbers are known (RFC 9669, sections 3.3, 4 and 5).
 
 ghost use Rattle.std.specs.Prelude.{◌≡◌, ◌<◌};
 ghost use Rattle.rb_program.specs.inner.Operations.{
@@ -31,7 +31,7 @@ pub(crate) enum SourceOperand {
     Register,
 }
 
-/// What an opcode does.
+/// The operation that an opcode selects.
 #[derive(Clone, Copy)]
 pub(crate) enum OpcodeMeaning {
     Binary(Width, BinaryOp, SourceOperand),
@@ -44,7 +44,7 @@ pub(crate) enum OpcodeMeaning {
     JumpFar,
     Call,
     Exit,
-    /// Loads a number or a map, by the source field.
+    /// Loads a number or a map; the source field selects which.
     Wide,
     Load(Size),
     LoadSigned(SignedSize),
@@ -52,11 +52,11 @@ pub(crate) enum OpcodeMeaning {
     StoreRegister(Size),
 }
 
-/// A wide instruction: the mode IMM, eight bytes, the class LD.
+/// The opcode of a wide instruction: mode IMM, eight bytes, class LD.
 const WIDE: u8 = 0x18;
 
 impl OpcodeMeaning {
-    /// The operation of an opcode: none where no instruction has it.
+    /// Returns the operation of an opcode, or `None` if no instruction has it.
     pub(crate) fn of(opcode: u8) -> Option<OpcodeMeaning>
         ensures { result ≡ operation_at opcode }
     {
@@ -79,7 +79,7 @@ impl OpcodeMeaning {
     }
 }
 
-/// The operation of a code in the classes ALU and ALU64.
+/// Returns the operation of a code in class ALU or ALU64.
 fn arithmetic(code: u8, source: SourceOperand, width: Width) -> Option<OpcodeMeaning>
     ensures { result ≡ arithmetic_at code source width }
 {
@@ -103,7 +103,7 @@ fn arithmetic(code: u8, source: SourceOperand, width: Width) -> Option<OpcodeMea
     }
 }
 
-/// The operation of a code in the classes JMP and JMP32.
+/// Returns the operation of a code in class JMP or JMP32.
 fn jump(code: u8, source: SourceOperand, width: Width) -> Option<OpcodeMeaning>
     ensures { result ≡ jump_at code source width }
 {
@@ -119,7 +119,7 @@ fn jump(code: u8, source: SourceOperand, width: Width) -> Option<OpcodeMeaning>
     }
 }
 
-/// The operation of a mode and a size in the class LDX.
+/// Returns the operation of a mode and a size in class LDX.
 fn load(mode: u8, size: u8) -> Option<OpcodeMeaning>
     ensures { result ≡ load_at mode size }
 {
@@ -130,14 +130,14 @@ fn load(mode: u8, size: u8) -> Option<OpcodeMeaning>
     }
 }
 
-/// The operation of a mode and a size in the class ST.
+/// Returns the operation of a mode and a size in class ST.
 fn store_immediate(mode: u8, size: u8) -> Option<OpcodeMeaning>
     ensures { result ≡ store_immediate_at mode size }
 {
     (mode == MEM).then_some(OpcodeMeaning::StoreImmediate(size_of(size)))
 }
 
-/// The operation of a mode and a size in the class STX.
+/// Returns the operation of a mode and a size in class STX.
 fn store_register(mode: u8, size: u8) -> Option<OpcodeMeaning>
     ensures { result ≡ store_register_at mode size }
 {

@@ -6,16 +6,16 @@ ghost use Rattle.rb_program.specs.inner.WideUnits.{is_behind_wide as is_behind_w
 use rb_insn::Insn;
 use std::marker::Model;
 
-/// The greatest number of units that a program has.
+/// The largest number of units in a program.
 pub const MAX_UNITS: u32 = 4096;
 
-/// A program: a list of instructions, of 1 to 4096 units of eight bytes.
+/// A program: a list of instructions of 1 to 4096 units of 8 bytes in total.
 ///
-/// Contracts see the list of its instructions, in order.
+/// Contracts see a program as the list of its instructions, in order.
 #[derive(Debug, Drop)]
 pub struct Program {
-    /// The instruction that begins at each unit. The second unit of a wide one has an EXIT that is never read, so that
-    /// each unit takes 16 bytes.
+    /// The instruction that begins at each unit. The second unit of a wide instruction holds an EXIT that is never
+    /// read, so each unit takes 16 bytes.
     units: Vec<Insn>,
 }
 
@@ -31,7 +31,7 @@ impl Model for Program {
     ghost invariant = { λ p. AreUnits p.units.items };
 }
 
-/// Whether a wide instruction is kept in front of a unit.
+/// Whether the instruction before `unit` is wide, so that `unit` is its second unit.
 fn is_behind_wide(units: &[Insn], unit: usize) -> bool
     ensures { result ≡ is_behind_wide_of units.now unit }
 {
@@ -46,7 +46,7 @@ impl Program {
     ghost use Rattle.rb_program.specs.Program.{unit_count, slot_at, IsProgram, IsLaidOut};
     ghost use Rattle.rb_program.specs.DecodedUnits.{insns_kept, AreUnits};
 
-    /// The program of these units.
+    /// Creates a program from its units.
     pub(crate) fn from_units(units: Vec<Insn>) -> Self
         requires { AreUnits units.items }
         ensures { result ≡ insns_kept units.items }
@@ -54,15 +54,15 @@ impl Program {
         Program { units }
     }
 
-    /// How many units the program has, 1 to 4096. In constant time.
+    /// Returns how many units the program has, 1 to 4096. Takes constant time.
     pub fn units(&self) -> u32
         ensures { result ≡ unit_count self.now }
     {
         self.units.len() as u32
     }
 
-    /// The instruction that begins at a unit: none at the second unit of a wide one, and none past the end. In constant
-    /// time.
+    /// Returns the instruction that begins at `unit`, or `None` at the second unit of a wide instruction and past the
+    /// end. Takes constant time.
     pub fn at(&self, unit: u32) -> Option<&Insn>
         ensures { option_copied result ≡ slot_at self.now unit }
     {
@@ -74,7 +74,7 @@ impl Program {
     }
 
     #[inline(always)]
-    /// The instruction that begins at a unit, for callers that know that one does. In constant time.
+    /// Returns the instruction that begins at `unit`. The caller must know that one does. Takes constant time.
     pub fn fetch(&self, unit: u32) -> &Insn
         requires { slot_at self.now unit ≢ None }
         ensures { slot_at self.now unit ≡ Some result.now }
@@ -83,15 +83,17 @@ impl Program {
     }
 
     #[inline(always)]
-    /// The instructions of the program, for a loop that fetches one after the other.
+    /// Returns a view of the program's instructions, for a loop that fetches one after the other.
     pub fn code(&self) -> Code<'_>
         ensures { result ≡ self.now }
     {
         Code { units: &self.units }
     }
 
-    /// What every program is: it has 1 to 4096 units, an instruction begins at each unit but the second ones of wide
-    /// instructions, and the numbers of each are in the ranges of their fields. For the proofs of callers; it does nothing.
+    /// The invariant of every program: it has 1 to 4096 units, an instruction begins at each unit except the second
+    /// units of wide instructions, and the numbers in each instruction fit their fields.
+    ///
+    /// For the proofs of callers; it does nothing at run time.
     pub fn facts(&self)
         ensures bounds { IsProgram self.now }
         ensures laid_out { IsLaidOut self.now }
@@ -101,9 +103,9 @@ impl Program {
     }
 }
 
-/// The instructions of a program, for a loop that fetches one after the other.
+/// A view of a program's instructions, for a loop that fetches one after the other.
 ///
-/// Contracts see the list of the program's instructions, in order.
+/// Contracts see it as the list of the program's instructions, in order.
 #[derive(Debug, Drop)]
 pub struct Code<'p> {
     units: &'p [Insn],
@@ -126,7 +128,7 @@ impl<'p> Code<'p> {
     ghost use Rattle.rb_program.specs.Program.{slot_at};
 
     #[inline(always)]
-    /// The instruction that begins at a unit, for callers that know that one does. In constant time.
+    /// Returns the instruction that begins at `unit`. The caller must know that one does. Takes constant time.
     pub fn fetch(&self, unit: u32) -> &'p Insn
         requires { slot_at self.now unit ≢ None }
         ensures { slot_at self.now unit ≡ Some result.now }

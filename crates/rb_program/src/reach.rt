@@ -1,4 +1,4 @@
-//! The units that a path reaches from the first one.
+//! The units that are reachable from the first one.
 
 ghost use Rattle.std.specs.Prelude.{◌≡◌, ◌+◌, ◌*◌, ◌<◌, ◌≤◌, ◌++◌, [], ◌∷◌, length, OnOk, IfOk};
 ghost use Rattle.rb_program.specs.Program.{unit_count};
@@ -8,8 +8,9 @@ use crate::Program;
 use crate::edges::{jump_target, next_unit};
 use std::alloc::{AllocError, Global};
 
-/// Which units a path reaches from unit 0, by edges in both directions: a mark for each unit. Each unit is looked at once at
-/// most, so the time and the memory are linear in the number of units.
+/// Returns a mark for each unit: whether a path leads to it from unit 0, by edges in both directions.
+///
+/// Visits each unit at most once, so time and memory are linear in the number of units.
 pub(crate) fn reached_units(alloc: Global, program: &Program) -> Result<Vec<bool>, AllocError>
     ensures { IfOk result (λ marks. MarksReached program.now marks.items) }
 {
@@ -22,7 +23,7 @@ pub(crate) fn reached_units(alloc: Global, program: &Program) -> Result<Vec<bool
     Ok(marks)
 }
 
-/// One turn of the search: the units to which an edge leads from this one are marked.
+/// Does one step of the search: marks the targets of the edges out of `unit`.
 fn look_at(
     program: &Program,
     unit: u32,
@@ -42,7 +43,7 @@ fn look_at(
     Ok(())
 }
 
-/// Marks a unit, where there is one and it is not yet marked, to be looked at later.
+/// Marks `unit` and queues it, if it exists and is not marked yet.
 fn mark(marks: &mut Vec<bool>, waiting: &mut Vec<u32>, unit: Option<u32>) -> Result<(), AllocError>
     ensures { OnOk result (Marks unit marks.old.items waiting.old.items marks.new.items waiting.new.items) }
 {

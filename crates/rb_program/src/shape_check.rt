@@ -15,17 +15,17 @@ use crate::shape_type::Shape;
 use rb_insn::Insn;
 use std::alloc::Global;
 
-/// The shape of a program, or its first fault: at the lowest unit that has one, and there the first kind. Out of memory may
-/// come in place of either.
+/// Returns the shape of a program, or its first fault: the first kind at the lowest unit that has a fault.
 ///
-/// Each unit is looked at twice at most, so the time and the memory are linear in the number of units.
+/// A failed allocation may replace either result. Visits each unit at most twice, so time and memory are linear in the
+/// number of units.
 pub fn shape(alloc: Global, program: Program) -> Result<Shape, ShapeFault>
-    // What is answered is the shape of this program, which is without a fault, and such a program is accepted.
+    // A returned shape is that of this program, which has no fault, and a program without a fault is accepted.
     ensures same_program { IfOk result (λ shape. shape ≡ program) }
     ensures well_shaped { OnOk result (IsWellShaped program) }
     ensures accepts { IsWellShaped program → IsOk result ⊎ (result ≡ Err shape_no_memory) }
 
-    // A fault is the first one, and where there is one it is answered.
+    // A returned fault is the first one, and if the program has a first fault, it is returned.
     ensures fault { IfErr result (λ fault. (fault ≡ shape_no_memory) ⊎ IsFirstShapeFault program fault) }
     ensures only_fault { (fault : ShapeFault) → IsFirstShapeFault program fault → (result ≡ Err fault) ⊎ (result ≡ Err shape_no_memory) }
 {
@@ -36,7 +36,7 @@ pub fn shape(alloc: Global, program: Program) -> Result<Shape, ShapeFault>
     }
 }
 
-/// The first fault of a program, where there is one, by the marks on the units that a path reaches.
+/// Returns the first fault of a program, if it has one, given the marks of the reachable units.
 fn first_fault(program: &Program, marks: &[bool]) -> Option<ShapeFault>
     requires { MarksReached program.now marks.now }
     ensures { MatchOption result (IsWellShaped program.now) (IsFirstShapeFault program.now) }
@@ -51,7 +51,7 @@ fn first_fault(program: &Program, marks: &[bool]) -> Option<ShapeFault>
     None
 }
 
-/// The first fault at an instruction, where there is one.
+/// Returns the first fault at an instruction, if it has one.
 fn fault_at(program: &Program, unit: u32, insn: &Insn, marks: &[bool]) -> Option<ShapeFaultKind>
     requires begins { slot_at program.now unit ≡ Some insn.now }
     requires marks { MarksReached program.now marks.now }
@@ -80,7 +80,7 @@ fn fault_at(program: &Program, unit: u32, insn: &Insn, marks: &[bool]) -> Option
     None
 }
 
-/// Whether the instruction jumps by a distance below 0.
+/// Whether the instruction jumps by a negative distance.
 fn jumps_back(insn: &Insn) -> bool
     ensures { IsTrue result ↔ JumpsBack insn.now }
 {

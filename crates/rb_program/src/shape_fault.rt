@@ -1,38 +1,40 @@
-//! What is wrong with the shape of a program.
+//! The faults in the shape of a program.
 
 use std::alloc::AllocError;
 use thiserror::Error;
 
-/// What is wrong at an instruction, in the order in which faults of one unit are returned.
+/// The kinds of shape faults, in the order of their precedence within one unit.
 #[derive(Clone, Copy, Debug, PartialEq, Eq, Error)]
 pub enum ShapeFaultKind {
-    /// It jumps by a distance below 0.
+    /// The instruction jumps by a negative distance.
     #[error("jump backward")]
     Backward,
-    /// It jumps to a unit that the program does not have.
+    /// The instruction jumps to a unit outside the program.
     #[error("jump out of the program")]
     OutOfProgram,
-    /// It jumps to the second unit of a wide instruction.
+    /// The instruction jumps to the second unit of a wide instruction.
     #[error("jump into a wide instruction")]
     IntoWide,
-    /// It is neither an exit nor an unconditional jump, and the program ends behind it.
+    /// The instruction is neither an exit nor an unconditional jump, and the program ends after it.
     #[error("falls off the end")]
     FallsOff,
-    /// No path leads to it from unit 0.
+    /// No path leads to the instruction from unit 0.
     #[error("unreachable")]
     Unreachable,
-    /// There was no memory for the check; this says nothing of the program.
+    /// Memory for the check could not be allocated; this says nothing about the program.
     #[error("out of memory")]
     Memory,
 }
 
-/// The first fault in the shape of a program: at the lowest unit, and there the first kind. Out of memory has unit 0.
+/// The first fault in the shape of a program: the first kind at the lowest unit that has a fault.
+///
+/// A failed allocation is reported at unit 0.
 #[derive(Clone, Copy, Debug, PartialEq, Eq, Error)]
 #[error("unit {unit}: {kind}")]
 pub struct ShapeFault {
     /// The unit of the instruction, counted from 0.
     pub unit: u32,
-    /// What is wrong there.
+    /// The kind of the fault.
     pub kind: ShapeFaultKind,
 }
 

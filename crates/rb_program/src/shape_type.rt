@@ -1,9 +1,9 @@
-//! The type of programs without a fault of shape.
+//! The type of well-shaped programs.
 
 use crate::Program;
 use std::marker::Model;
 
-/// A program without a fault of shape. Contracts see the program.
+/// A well-shaped program. Contracts see the program itself.
 #[derive(Debug, Drop)]
 pub struct Shape {
     program: Program,
@@ -26,7 +26,7 @@ impl Shape {
     ghost use Rattle.rb_program.specs.Program.{IsProgram, IsLaidOut};
     ghost use Rattle.rb_program.specs.Shape.{AllIsReached, IsInstructionStart, EachIsEntered, EdgesLeadForward, IsWellShaped, JumpsLand, NothingFallsOff};
 
-    /// The shape of a program without a fault.
+    /// Creates the shape of a program without a fault.
     pub(crate) fn new(program: Program) -> Self
         requires { IsWellShaped program }
         ensures { result ≡ program }
@@ -34,16 +34,18 @@ impl Shape {
         Shape { program }
     }
 
-    /// The program.
+    /// Returns the program.
     pub fn program(&self) -> &Program
         ensures { result.now ≡ self.now }
     {
         &self.program
     }
 
-    /// What every program with a shape is: it has no fault; its edges lead forward, to instructions; each instruction
-    /// is reached; none falls off the end; each jump has a target; and each instruction but the first, at unit 0, is entered
-    /// from an earlier one. For the proofs of callers; it does nothing.
+    /// The invariant of every well-shaped program: it has no fault; its edges lead forward, to instructions; each
+    /// instruction is reachable; none falls off the end; each jump has a target; and each instruction but the first, at
+    /// unit 0, is entered from an earlier one.
+    ///
+    /// For the proofs of callers; it does nothing at run time.
     pub fn facts(&self)
         ensures well_shaped { IsWellShaped self.now }
         ensures forward { EdgesLeadForward self.now }

@@ -14,7 +14,7 @@ use crate::fault::TextFault;
 use crate::program::Program;
 use std::alloc::{AllocError, Global};
 
-/// The bytes of a text that are no white space.
+/// Returns the bytes of a text without its white space.
 fn digits_of(alloc: Global, text: &[u8]) -> Result<Vec<u8>, AllocError>
     ensures { IfOk result (λ digits. digits.items ≡ without_white_space text.now) }
 {
@@ -24,7 +24,8 @@ fn digits_of(alloc: Global, text: &[u8]) -> Result<Vec<u8>, AllocError>
         .collect(alloc)
 }
 
-/// The program of the bytes that the digits are, or their first fault, or that they are no hex, or out of memory.
+/// Returns the program that the hex digits encode. An error is the first fault of its bytes, `NotHex`, or a failed
+/// allocation.
 fn decode_digits(alloc: Global, digits: &[u8]) -> Result<Program, TextFault>
     ensures bounds { IfOk result IsProgram }
     ensures spelled { IfOk result (λ program. (bytes : List ℕ) × IsHexOf digits.now bytes × SpellsAll program bytes) }
@@ -36,18 +37,17 @@ fn decode_digits(alloc: Global, digits: &[u8]) -> Result<Program, TextFault>
     Ok(program)
 }
 
-/// The program of a text: its bytes as pairs of hex digits of either case, with ASCII white space anywhere between the
-/// digits (Rust's set: tab, line feed, form feed, carriage return, space). Out of memory may come in place of any other
-/// answer.
+/// Decodes a text to a program: pairs of hex digits of either case, with ASCII white space anywhere between the digits.
 ///
-/// One pass over the text, and one over its bytes.
+/// White space is Rust's set: tab, line feed, form feed, carriage return, space. A failed allocation may replace any
+/// other result. Makes one pass over the text and one over its bytes.
 pub fn from_text(alloc: Global, text: &str) -> Result<Program, TextFault>
-    // NotHex is answered where the text is no hex, and there nothing else.
+    // NotHex is returned if and only if the text is not hex.
     ensures not_hex { result ≡ Err TextFault.NotHex → (bytes : List ℕ) → IsHexOf (without_white_space text.now) bytes → ⊥ }
     ensures only_hex { ((bytes : List ℕ) → IsHexOf (without_white_space text.now) bytes → ⊥)
         → (result ≡ Err TextFault.NotHex) ⊎ (result ≡ Err TextFault.Memory) }
 
-    // Else the answer is that of decoding the bytes.
+    // Otherwise the result is that of decoding the bytes.
     ensures spelled { IfOk result (λ program. (bytes : List ℕ)
         × IsHexOf (without_white_space text.now) bytes × SpellsAll program bytes) }
     ensures only_program { (bytes : List ℕ) (program : List Insn) → IsHexOf (without_white_space text.now) bytes

@@ -1,11 +1,12 @@
-//! What an instruction computes of two numbers.
+//! The result of an instruction for two numbers.
 
 use crate::decoded::insn_of;
 use rb_insn::{Insn, jumps, value};
 use std::alloc::{AllocError, Global};
 use std::fmt::Write;
 
-/// The value that an arithmetic instruction gives, or whether a conditional one jumps, where its registers hold these numbers.
+/// Writes the value that an arithmetic instruction computes, or whether a conditional one jumps, if its registers
+/// hold these numbers.
 pub(crate) fn answer_compute(
     alloc: Global,
     dst: u64,

@@ -6,7 +6,7 @@ use rb_program::{Program, from_text};
 use std::alloc::{AllocError, Global};
 use std::fmt::Write;
 
-/// The instructions of a program as assembly.
+/// Writes a program's instructions as assembly.
 pub(crate) fn answer_assembly(
     alloc: Global,
     hex: &str,

@@ -1,9 +1,9 @@
-//! Bytes of rows: hex, and text with escapes.
+//! Bytes in rows: hex, and text with escapes.
 
 use std::alloc::{AllocError, Global};
 use std::fmt::Write;
 
-/// The bytes that hex spells, white space left out; none where it is no hex.
+/// Decodes hex, ignoring white space, or returns `None` if it is not hex.
 pub(crate) fn bytes_of(alloc: Global, hex: &str) -> Result<Option<Vec<u8>>, AllocError> {
     let digits: Vec<u8> = hex
         .as_bytes()
@@ -14,20 +14,20 @@ pub(crate) fn bytes_of(alloc: Global, hex: &str) -> Result<Option<Vec<u8>>, Allo
     Ok(hex::decode(alloc, digits.as_slice()).ok())
 }
 
-// Where an escape stands.
+// The state of an escape.
 #[derive(Clone, Copy)]
 enum Escape {
-    // In none.
+    // No escape.
     Plain,
-    // Behind a backslash.
+    // After a backslash.
     Begun,
-    // Behind a backslash and x.
+    // After a backslash and x.
     Hex,
-    // Behind those and a digit of this value.
+    // After these and a digit of this value.
     Digit(u8),
 }
 
-/// The bytes of a text in which `\n`, `\r`, `\t`, `\\` and `\x` with two hex digits stand for one byte each.
+/// Decodes a text in which `\n`, `\r`, `\t`, `\\` and `\x` with two hex digits stand for one byte each.
 pub(crate) fn unescaped(alloc: Global, text: &str) -> Result<Vec<u8>, AllocError> {
     let mut bytes = Vec::new(alloc);
     let mut escape = Escape::Plain;
@@ -41,7 +41,7 @@ pub(crate) fn unescaped(alloc: Global, text: &str) -> Result<Vec<u8>, AllocError
     Ok(bytes)
 }
 
-// Where an escape stands behind a byte, and the byte that ended there.
+// Returns the state after a byte, and the decoded byte if one is complete.
 fn after(escape: Escape, byte: u8) -> (Escape, Option<u8>) {
     match (escape, byte) {
         (Escape::Plain, b'\\') => (Escape::Begun, None),
@@ -58,7 +58,7 @@ fn after(escape: Escape, byte: u8) -> (Escape, Option<u8>) {
     }
 }
 
-// The value of a hex digit, and 0 of another byte.
+// Returns the value of a hex digit, or 0 for another byte.
 fn value_of(digit: u8) -> u8 {
     match digit {
         b'0'..=b'9' => digit - b'0',
@@ -67,7 +67,7 @@ fn value_of(digit: u8) -> u8 {
     }
 }
 
-/// Tells bytes with escapes, each line of them on one of its own behind a word.
+/// Appends bytes with escapes, each line of them on a line of its own that begins with `word`.
 pub(crate) fn tell_escaped(word: &str, bytes: &[u8], out: &mut String) -> Result<(), AllocError> {
     let mut begins = true;
     for byte in bytes {

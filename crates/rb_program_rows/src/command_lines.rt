@@ -1,4 +1,4 @@
-//! Command lines of `rbhost`, over inputs in memory.
+//! Command lines of `rbhost`, with inputs in memory.
 
 use crate::bytes::{bytes_of, tell_escaped, unescaped};
 use rb_command_line::{Terminals, command};
@@ -11,10 +11,10 @@ use std::sync::Wait;
 use std::thread::Threads;
 use std::time::Clock;
 
-// How many bytes a read gives at most, in the runs of a command that tell the same.
+// The maximum lengths of reads, one for each run of a command. All runs must end alike.
 const PIECES: [usize; 3] = [7, 1, 65_536];
 
-// Gives its bytes, so many at a time, and then the end.
+// Returns its bytes, at most this many at a time, and then the end of the input.
 #[derive(Drop)]
 struct Pieces<'a> {
     rest: &'a [u8],
@@ -31,7 +31,7 @@ impl Read for Pieces<'_> {
     }
 }
 
-// What a command ends with.
+// How a command ended.
 #[derive(Drop, PartialEq, Eq)]
 struct Ending {
     status: u8,
@@ -42,8 +42,9 @@ struct Ending {
     told: Vec<u8>,
 }
 
-/// What a command line ends with, where its words stand in front of ` < ` and a text with escapes, or of ` : ` and hex, which are its input.
-/// Escapes may stand in words too. It is run over reads of three sizes, but for `run`, which is run once.
+/// Writes how a command line ends. Its words come before ` < ` and a text with escapes, or ` : ` and hex, which
+/// are its input. Words may contain escapes too. It is run with reads of three lengths, except `run`, which is run
+/// once.
 pub(crate) fn answer_command_line<R: Threads + Wait + Sync + Files<File = File> + Clock + Eprint>(
     rt: &R,
     alloc: Global,
@@ -63,7 +64,7 @@ pub(crate) fn answer_command_line<R: Threads + Wait + Sync + Files<File = File> 
     }
 }
 
-// The words of a command line; none where one is no text.
+// Returns the words of a command line, or `None` if one is not text.
 fn words_of(alloc: Global, line: &str) -> Result<Option<Vec<String>>, AllocError> {
     let mut words = Vec::new(alloc);
     let line = line.strip_suffix(' ').unwrap_or(line);
@@ -104,7 +105,7 @@ fn is_run(words: &[String]) -> bool {
     }
 }
 
-// What a command ends with over an input that gives so many bytes at a time.
+// Returns how a command ends with an input that returns at most this many bytes at a time.
 fn ended<R: Threads + Wait + Sync + Files<File = File> + Clock + Eprint>(
     rt: &R,
     alloc: Global,
@@ -132,7 +133,8 @@ fn ended<R: Threads + Wait + Sync + Files<File = File> + Clock + Eprint>(
     }
 }
 
-// Tells the status, and each line that was printed or told. Of wrong usage only that it was told.
+// Appends the status, and each line of the output and of the error output. Of a usage message only its presence is
+// reported.
 fn tell_ending(ending: &Ending, out: &mut String) -> Result<(), AllocError> {
     write!(out, "status {}", ending.status)?;
     if ending.is_unread {

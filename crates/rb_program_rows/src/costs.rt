@@ -1,11 +1,12 @@
-//! What programs can cost at most.
+//! The costs of programs.
 
 use crate::verified::verified;
 use rb_cost::cost_of;
 use std::alloc::{AllocError, Global};
 use std::fmt::Write;
 
-/// What a verified program can cost at most, or why the program is refused, for a context of so many bytes and so many rings.
+/// Writes the maximum cost of a verified program, or why the program is refused, for a context of `ctx_len` bytes
+/// and this many rings.
 pub(crate) fn answer_cost(
     alloc: Global,
     ctx_len: u64,

@@ -1,4 +1,4 @@
-//! What bytes and texts decode to.
+//! Decoding bytes and texts.
 
 use crate::bytes::{bytes_of, unescaped};
 use rb_insn::Insn;
@@ -6,7 +6,7 @@ use rb_program::{DecodeFault, DecodeKind, Program, TextFault, decode, encode, fr
 use std::alloc::{AllocError, Global};
 use std::fmt::Write;
 
-/// How many units the program of these bytes has, and that it is encoded to the same bytes.
+/// Writes the number of units of the program of these bytes, and whether it is encoded to the same bytes.
 pub(crate) fn answer_units(alloc: Global, hex: &str, out: &mut String) -> Result<(), AllocError> {
     let Some(bytes) = bytes_of(alloc, hex)? else {
         return out.push_str("no hex");
@@ -17,7 +17,7 @@ pub(crate) fn answer_units(alloc: Global, hex: &str, out: &mut String) -> Result
     }
 }
 
-// Tells the units of a program, and whether it is encoded to these bytes.
+// Appends the number of units of a program, and whether it is encoded to these bytes.
 fn tell_units(
     alloc: Global,
     program: &Program,
@@ -33,7 +33,7 @@ fn tell_units(
     write!(out, "{} units and {back}", program.units())
 }
 
-/// The instructions of a program, each behind its unit.
+/// Writes a program's instructions, each after its unit.
 pub(crate) fn answer_decode(alloc: Global, hex: &str, out: &mut String) -> Result<(), AllocError> {
     match from_text(alloc, hex) {
         Ok(program) => tell_instructions(&program, out),
@@ -52,7 +52,7 @@ fn tell_instructions(program: &Program, out: &mut String) -> Result<(), AllocErr
     Ok(())
 }
 
-/// The instruction that begins at a unit of a program.
+/// Writes the instruction that begins at a unit of a program.
 pub(crate) fn answer_at(
     alloc: Global,
     unit: u32,
@@ -68,7 +68,7 @@ pub(crate) fn answer_at(
     }
 }
 
-/// The bytes of the program that a text with escapes spells.
+/// Writes the bytes of the program in a text with escapes.
 pub(crate) fn answer_text(alloc: Global, text: &str, out: &mut String) -> Result<(), AllocError> {
     let bytes = unescaped(alloc, text)?;
     let Ok(text) = str::from_utf8(bytes.as_slice()) else {
@@ -80,7 +80,7 @@ pub(crate) fn answer_text(alloc: Global, text: &str, out: &mut String) -> Result
     }
 }
 
-/// Tells the bytes of a program in hex.
+/// Appends the bytes of a program in hex.
 pub(crate) fn tell_bytes(
     alloc: Global,
     program: &Program,
@@ -91,7 +91,7 @@ pub(crate) fn tell_bytes(
     out.push_str(digits.as_str())
 }
 
-/// Tells why a text is no program.
+/// Appends why a text is not a program.
 pub(crate) fn tell_text_fault(fault: TextFault, out: &mut String) -> Result<(), AllocError> {
     match fault {
         TextFault::NotHex => out.push_str("refused text"),
@@ -100,7 +100,7 @@ pub(crate) fn tell_text_fault(fault: TextFault, out: &mut String) -> Result<(), 
     }
 }
 
-/// Tells why bytes are no program.
+/// Appends why bytes are not a program.
 pub(crate) fn tell_decode_fault(fault: DecodeFault, out: &mut String) -> Result<(), AllocError> {
     match fault.kind {
         DecodeKind::Memory => out.push_str("refused memory"),
@@ -108,7 +108,7 @@ pub(crate) fn tell_decode_fault(fault: DecodeFault, out: &mut String) -> Result<
     }
 }
 
-/// The first instruction of a text, where it is a program.
+/// Returns the first instruction of a text, if it is a program.
 pub(crate) fn insn_of(alloc: Global, hex: &str) -> Option<Insn> {
     let program = from_text(alloc, hex).ok()?;
     program.at(0).copied()

@@ -1,4 +1,4 @@
-//! What is explained of programs.
+//! Explanations of programs.
 
 ghost use Rattle.std.specs.Prelude.{◌≤◌};
 
@@ -10,18 +10,19 @@ use rb_program::TextFault;
 use std::alloc::{AllocError, Global};
 use std::fmt::Write;
 
-/// Which part of an explanation is told.
+/// The part of an explanation to report.
 #[derive(Clone, Copy)]
 pub(crate) enum ExplainedPart {
-    /// The lines of its units, each in front of a line feed.
+    /// The lines of its units, each followed by a line feed.
     Listing,
     /// The assembly of its instructions.
     Assembly,
-    /// So many characters of what is said of a fault.
+    /// The first characters of the advice for a fault, at most this many.
     Advice(u32),
 }
 
-/// Whether a program is accepted or why not, and a part of what is explained of it, for a context of so many bytes and so many rings.
+/// Writes whether a program is accepted or why not, and a part of its explanation, for a context of `ctx_len` bytes and
+/// this many rings.
 pub(crate) fn answer_explain(
     alloc: Global,
     (ctx_len, rings): (u64, u64),
@@ -64,7 +65,7 @@ fn tell_part(
     }
 }
 
-// Tells the lines of units, which begin with white space.
+// Appends the lines of units, which begin with white space.
 fn tell_listing(text: &str, out: &mut String) -> Result<(), AllocError> {
     for line in text.lines() {
         if line.starts_with(' ') {
@@ -74,7 +75,7 @@ fn tell_listing(text: &str, out: &mut String) -> Result<(), AllocError> {
     Ok(())
 }
 
-// Tells the instruction of each line of a unit, without a helper's name.
+// Appends the instruction in each line of a unit, without a helper's name.
 fn tell_assembly(text: &str, out: &mut String) -> Result<(), AllocError> {
     let mut is_first = true;
     for line in text.lines() {
@@ -87,7 +88,7 @@ fn tell_assembly(text: &str, out: &mut String) -> Result<(), AllocError> {
     Ok(())
 }
 
-// The assembly in a line.
+// Returns the assembly in a line.
 fn insn_in(line: &str) -> &str {
     let plain = match line.split_once("  # ") {
         Some((plain, _)) => plain,
@@ -99,7 +100,7 @@ fn insn_in(line: &str) -> &str {
     }
 }
 
-// Tells the first characters of what is said of a fault.
+// Appends the first characters of the advice for a fault.
 fn tell_advice(text: &str, count: u32, out: &mut String) -> Result<(), AllocError> {
     for line in text.lines() {
         if !line.starts_with(' ') {

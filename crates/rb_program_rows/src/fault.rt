@@ -7,7 +7,7 @@ use thiserror::Error;
 /// Why the rows were not answered.
 #[derive(Clone, Copy, Debug, PartialEq, Eq, Error)]
 pub(crate) enum ProgramRowsFault {
-    /// There was no memory.
+    /// Memory could not be allocated.
     #[error("no memory")]
     Memory,
     /// The input or the output failed.

@@ -1,10 +1,11 @@
-//! Answers rows over programs: what bytes decode to, the shape of jumps, verification, arithmetic, single steps of the verifier, runs, assembly,
-//! explanations, and command lines of `rbhost`. A row is a line of the input, and its answer stands in the output at its place.
+//! Answers rows on programs: decoding, the shape of jumps, verification, arithmetic, single steps of the verifier,
+//! runs, assembly, explanations, and command lines of `rbhost`. A row is a line of the input, and its answer is the
+//! corresponding line of the output.
 //!
-//! `stdin` has the rows that the gate runs, and `stdout` their answers, which were worked out apart from the code; `tools/rows program` draws
-//! more. A line that is empty or begins with `#` is repeated. `name WORD TEXT` keeps a text, which stands for `{WORD}` in the rows behind it,
-//! and `repeat WORD COUNT TEXT` keeps it so many times over. `row.rt` has the other rows. A line that is none of them is answered by its
-//! number.
+//! `stdin` has the rows that the gate runs, and `stdout` their answers, which were worked out independently of the
+//! code; `tools/rows program` draws more. A line that is empty or begins with `#` is repeated. `name WORD TEXT` defines
+//! `{WORD}` as this text in the rows after it, and `repeat WORD COUNT TEXT` defines it as the text repeated this often.
+//! `row.rt` has the other rows. A line that is none of them is answered with its number.
 #![tactic(auto)]
 
 mod arithmetic;

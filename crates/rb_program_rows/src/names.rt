@@ -1,4 +1,4 @@
-//! Texts that have a name.
+//! Named texts.
 
 use crate::fault::ProgramRowsFault;
 use std::alloc::{AllocError, Global};
@@ -18,7 +18,7 @@ impl Names {
         }
     }
 
-    /// Keeps the text of a line `name WORD TEXT` or `repeat WORD COUNT TEXT`; false where the line is neither.
+    /// Defines the text of a line `name WORD TEXT` or `repeat WORD COUNT TEXT`. Returns false if the line is neither.
     pub(crate) fn keep(&mut self, alloc: Global, line: &str) -> Result<bool, ProgramRowsFault> {
         let Some((name, count, text)) = kept(line) else {
             return Ok(false);
@@ -32,7 +32,7 @@ impl Names {
         Ok(true)
     }
 
-    /// A line with each name in braces replaced by its text. A name that has none stays.
+    /// Returns a line with each name in braces replaced by its text. An undefined name is left as it is.
     pub(crate) fn in_place(&self, alloc: Global, line: &str) -> Result<String, AllocError> {
         let mut text = String::new(alloc);
         let mut is_first = true;
@@ -47,7 +47,7 @@ impl Names {
         Ok(text)
     }
 
-    // Adds what follows a brace, with its name replaced.
+    // Appends what follows a brace, with its name replaced.
     fn push_named(&self, part: &str, text: &mut String) -> Result<(), AllocError> {
         let Some((name, rest)) = part.split_once('}') else {
             text.push_str("{")?;
@@ -65,7 +65,7 @@ impl Names {
     }
 }
 
-// The name that a line keeps a text under, how many times over, and the text.
+// Returns the name that a line defines, how often its text is repeated, and the text.
 fn kept(line: &str) -> Option<(&str, u32, &str)> {
     let (word, rest) = line.split_once(' ')?;
     let (name, text) = rest.split_once(' ')?;

@@ -1,6 +1,6 @@
-//! Numbers of rows.
+//! Numbers in rows.
 
-/// A number of 64 bits: in decimal, in hexadecimal behind `0x`, or below zero behind `-`.
+/// Parses a number of 64 bits: decimal, hexadecimal after `0x`, or negative after `-`.
 pub(crate) fn number_of(word: &str) -> Option<u64> {
     if let Some(digits) = word.strip_prefix("0x") {
         return u64::from_str_radix(digits, 16).ok();
@@ -12,19 +12,19 @@ pub(crate) fn number_of(word: &str) -> Option<u64> {
     word.parse::<u64>().ok()
 }
 
-/// A word, the number that it is, and what stands behind it.
+/// Parses the first word as a number. Returns it with the rest.
 pub(crate) fn number_and_rest(words: &str) -> Option<(u64, &str)> {
     let (word, rest) = words.split_once(' ')?;
     Some((number_of(word)?, rest))
 }
 
-/// The number of a unit, and what stands behind it.
+/// Parses the number of a unit. Returns it with the rest.
 pub(crate) fn unit_and_rest(words: &str) -> Option<(u32, &str)> {
     let (word, rest) = words.split_once(' ')?;
     Some((word.parse::<u32>().ok()?, rest))
 }
 
-/// Two numbers, and what stands behind them.
+/// Parses two numbers. Returns them with the rest.
 pub(crate) fn two_numbers_and_rest(words: &str) -> Option<(u64, u64, &str)> {
     let (first, rest) = number_and_rest(words)?;
     let (second, rest) = number_and_rest(rest)?;

@@ -1,4 +1,4 @@
-//! The rows, and which call answers each.
+//! The rows, and the call that answers each.
 
 use crate::arithmetic::answer_compute;
 use crate::assembly::answer_assembly;
@@ -30,37 +30,39 @@ enum ProgramRow<'a> {
     Decode(&'a str),
     // `at UNIT HEX`: the instruction that begins at a unit.
     At(u32, &'a str),
-    // `text TEXT`: the program of a text with escapes.
+    // `text TEXT`: the program in a text with escapes.
     Text(&'a str),
     // `shape HEX`: the shape of a program.
     Shape(&'a str),
-    // `edges UNIT HEX`: where an instruction at a unit leads.
+    // `edges UNIT HEX`: the next unit after an instruction at a unit, and the target of its jump.
     Edges(u32, &'a str),
-    // `verify CONTEXT RINGS HEX`: verification for a context of so many bytes and so many rings.
+    // `verify CONTEXT RINGS HEX`: verification for this context length and number of rings.
     Verify(u64, u64, &'a str),
-    // `cost CONTEXT RINGS HEX`: what a verified program can cost at most.
+    // `cost CONTEXT RINGS HEX`: the maximum cost of a verified program.
     Cost(u64, u64, &'a str),
-    // `run CONTEXT RINGS BYTES ANSWERS HEX`: a run over helpers that answer from a list, with this context (`-` where it is empty).
+    // `run CONTEXT RINGS BYTES ANSWERS HEX`: a run with this context (`-` if it is empty), with helpers that answer
+    // from a list.
     Run((u64, u64), &'a str, &'a str, &'a str),
-    // `compute DST SRC HEX`: what an instruction computes of two numbers.
+    // `compute DST SRC HEX`: the result of an instruction for two numbers.
     Compute(u64, u64, &'a str),
     // `assembly HEX`: a program as assembly.
     Assembly(&'a str),
-    // `listing CONTEXT RINGS HEX`, `explained ..` and `advice CONTEXT RINGS COUNT HEX`: a part of what is explained of a program.
+    // `listing CONTEXT RINGS HEX`, `explained ..` and `advice CONTEXT RINGS COUNT HEX`: part of a program's
+    // explanation.
     Explain((u64, u64), ExplainedPart, &'a str),
     // `step CONTEXT RINGS UNIT STATE HEX` and `step-in-place ..`: a step of the verifier.
     Step((Way, Limits, u32), &'a str, &'a str),
     // `join STATE STATE`: what two states have in common.
     Join(&'a str, &'a str),
-    // `rbhost WORDS < TEXT` or `rbhost WORDS : HEX`: a command line of `rbhost` over an input.
+    // `rbhost WORDS < TEXT` or `rbhost WORDS : HEX`: a command line of `rbhost` with an input.
     CommandLine(&'a str),
-    // `helper NUMBER`: the helper of a number.
+    // `helper NUMBER`: the helper with a number.
     Helper(u64),
-    // `register NUMBER`: the register of a number.
+    // `register NUMBER`: the register with a number.
     Register(u64),
 }
 
-/// Answers the row of a line; a line that is none is told by its number.
+/// Answers the row of a line. A line that is not a row is answered with its number.
 pub(crate) fn answer<R: Threads + Wait + Sync + Files<File = File> + Clock + Eprint>(
     rt: &R,
     alloc: Global,

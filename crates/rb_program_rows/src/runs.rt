@@ -1,4 +1,4 @@
-//! Runs of verified programs over helpers that answer from a list.
+//! Runs of verified programs, with helpers that answer from a list.
 
 use crate::bytes::bytes_of;
 use crate::verified::verified;
@@ -7,8 +7,9 @@ use rb_interp::{Helpers, Listed, run};
 use std::alloc::{AllocError, Global};
 use std::fmt::Write;
 
-/// What a run of a program answers, the calls that it made, and the bytes of the records that went back. The program is verified for a context
-/// of so many bytes and so many rings, and run with this one. Each call uses one of the answers up, `y` or `n`.
+/// Writes the result of a program's run, the calls that it made, and the bytes of the records that were submitted
+/// or discarded. The program is verified for a context of `ctx_len` bytes and this many rings, and run with this
+/// context. Each call uses the next answer of the list, `y` or `n`.
 pub(crate) fn answer_run(
     alloc: Global,
     (ctx_len, rings): (u64, u64),
@@ -39,7 +40,7 @@ pub(crate) fn answer_run(
     tell_calls(alloc, &helpers, out)
 }
 
-// Tells the calls that were made, and the bytes that went back.
+// Appends the calls that were made, and the bytes that were submitted or discarded.
 fn tell_calls(alloc: Global, helpers: &Witness, out: &mut String) -> Result<(), AllocError> {
     for done in helpers.trace() {
         write!(out, "; {done:?}")?;

@@ -7,7 +7,7 @@ use rb_program::{ShapeFault, ShapeFaultKind, from_text, jump_target, next_unit, 
 use std::alloc::{AllocError, Global};
 use std::fmt::Write;
 
-/// The bytes of a program that is well shaped, or why it is not.
+/// Writes the bytes of a well-shaped program, or why a program is not well-shaped.
 pub(crate) fn answer_shape(alloc: Global, hex: &str, out: &mut String) -> Result<(), AllocError> {
     let program = match from_text(alloc, hex) {
         Ok(program) => program,
@@ -22,7 +22,7 @@ pub(crate) fn answer_shape(alloc: Global, hex: &str, out: &mut String) -> Result
     }
 }
 
-/// Tells why a program is not well shaped.
+/// Appends why a program is not well-shaped.
 pub(crate) fn tell_shape_fault(fault: ShapeFault, out: &mut String) -> Result<(), AllocError> {
     match fault.kind {
         ShapeFaultKind::Memory => out.push_str("refused memory"),
@@ -30,7 +30,7 @@ pub(crate) fn tell_shape_fault(fault: ShapeFault, out: &mut String) -> Result<()
     }
 }
 
-/// Where an instruction at a unit leads: to the unit behind it, and to its jump's target.
+/// Writes the next unit after an instruction and the target of its jump, or `none` for either.
 pub(crate) fn answer_edges(
     alloc: Global,
     unit: u32,

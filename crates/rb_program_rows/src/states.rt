@@ -1,4 +1,4 @@
-//! States of the verifier, as words spell them.
+//! States of the verifier, and how rows write them.
 
 ghost use Rattle.std.specs.Prelude.{◌≤◌, ◌<◌, IsTrue, length};
 ghost use Rattle.rb_verifier.specs.References.{AreEarlier};
@@ -7,8 +7,9 @@ use crate::numbers::number_of;
 use rb_verifier::{Abs, AbsState, Held, Reference};
 use std::alloc::{AllocError, Global};
 
-/// The state that a word spells, over that of the entry: `entry`, or assignments with commas between them, none where one is no assignment.
-/// `r3=VALUE` is a register, `p63=VALUE` a place of the stack, of which no known number is kept, and `holds=ID:RING:SIZE:sure` or `..:perhaps` a reference.
+/// Parses a state: `entry`, or assignments to it, separated by commas. Returns `None` if one is not an assignment.
+/// `r3=VALUE` is a register, `p63=VALUE` a slot of the stack without a known number, and `holds=ID:RING:SIZE:sure` or
+/// `..:perhaps` a reference.
 pub(crate) fn state_of(alloc: Global, word: &str) -> Result<Option<AbsState>, AllocError> {
     let mut state = AbsState::entry(alloc);
     if word == "entry" {
@@ -22,7 +23,7 @@ pub(crate) fn state_of(alloc: Global, word: &str) -> Result<Option<AbsState>, Al
     Ok(Some(state))
 }
 
-// Makes an assignment; false where the word is none.
+// Performs an assignment. Returns false if the word is none.
 fn assign(state: &mut AbsState, word: &str) -> Result<bool, AllocError> {
     let Some((name, value)) = word.split_once('=') else {
         return Ok(false);
@@ -47,7 +48,7 @@ fn assign(state: &mut AbsState, word: &str) -> Result<bool, AllocError> {
     Ok(true)
 }
 
-// Gives a register a value; false where there is no such register.
+// Assigns a value to a register. Returns false if the register does not exist.
 fn put(values: &mut [Abs; 11], number: &str, value: Abs) -> bool {
     match number.parse::<usize>() {
         Ok(number) if number < 11 => {
@@ -58,7 +59,7 @@ fn put(values: &mut [Abs; 11], number: &str, value: Abs) -> bool {
     }
 }
 
-// Adds a reference; false where it is none, or not a later one than those that are held, or a fifth one.
+// Adds a reference. Returns false if it is none, not later than those that are held, or a fifth one.
 fn hold(held: &mut Held, word: &str) -> bool {
     let Some(reference) = reference_of(word) else {
         return false;
@@ -94,8 +95,8 @@ pub(crate) fn are_earlier(unit: u32, held: &Held) -> bool
     true
 }
 
-/// What is known of a value, as a word spells it: `nothing`, `number`, `known:N`, `context:OFFSET`, `stack:OFFSET`, `ring:N`, `perhaps:ID` or
-/// `record:ID:OFFSET`.
+/// Parses what is known of a value: `nothing`, `number`, `known:N`, `context:OFFSET`, `stack:OFFSET`, `ring:N`,
+/// `perhaps:ID` or `record:ID:OFFSET`.
 pub(crate) fn value_of(word: &str) -> Option<Abs> {
     if word == "nothing" {
         return Some(Abs::Unreadable);

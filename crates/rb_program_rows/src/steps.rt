@@ -8,7 +8,7 @@ use rb_verifier::{AbsState, Effect, Limits, StepFault, below, join, step, step_i
 use std::alloc::{AllocError, Global};
 use std::fmt::Write;
 
-/// How a step is taken.
+/// How a step is made.
 #[derive(Clone, Copy)]
 pub(crate) enum Way {
     /// From the state to two others.
@@ -17,8 +17,8 @@ pub(crate) enum Way {
     InPlace,
 }
 
-/// The rule that an instruction at a unit breaks in a state, or what it changes along its edges; of a step in place also whether both edges
-/// have one state.
+/// Writes the rule that an instruction at a unit violates in a state, or the changes along its edges; for a step in
+/// place, also whether both edges have the same state.
 pub(crate) fn answer_step(
     alloc: Global,
     (way, limits, unit): (Way, Limits, u32),
@@ -101,8 +101,8 @@ fn tell_jump(
     }
 }
 
-/// What is known of two states in common, told as changes of the first, and which of them are below it; and whether the first is below the
-/// second.
+/// Writes what two states have in common, as changes of the first, which of the two are below it, and whether the
+/// first is below the second.
 pub(crate) fn answer_join(
     alloc: Global,
     first: &str,

@@ -1,10 +1,10 @@
-//! What changed in a state of the verifier.
+//! Changes of a verifier state.
 
 use rb_verifier::{Abs, AbsState};
 use std::alloc::AllocError;
 use std::fmt::{self, Formatter, Write};
 
-/// A value as a word spells it.
+/// A value, as rows write it.
 #[derive(Clone, Copy)]
 struct Word(Abs);
 
@@ -23,7 +23,8 @@ impl fmt::Display for Word {
     }
 }
 
-/// Tells each register, each place of the stack and the references in which a state differs from the one before; nothing where it is the same.
+/// Appends each register, each slot of the stack and the references in which a state differs from the one before, or
+/// nothing if none does.
 pub(crate) fn tell_changes(
     before: &AbsState,
     state: &AbsState,
@@ -47,7 +48,7 @@ pub(crate) fn tell_changes(
     tell_held(state, out)
 }
 
-// Tells the references that are held.
+// Appends the references that are held.
 fn tell_held(state: &AbsState, out: &mut String) -> Result<(), AllocError> {
     if state.held.as_slice().is_empty() {
         return out.push_str(" holds=none");

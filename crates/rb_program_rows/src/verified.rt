@@ -1,4 +1,4 @@
-//! Programs that are verified, and why others are not.
+//! Verified programs, and why others are refused.
 
 ghost use Rattle.std.specs.Prelude.{◌≤◌};
 
@@ -9,7 +9,8 @@ use rb_verifier::{Refusal, Verified, verify};
 use std::alloc::{AllocError, Global};
 use std::fmt::Write;
 
-/// What a verified program tells, or why the program is refused, for a context of so many bytes and so many rings.
+/// Writes the properties of a verified program, or why the program is refused, for a context of `ctx_len` bytes
+/// and this many rings.
 pub(crate) fn answer_verify(
     alloc: Global,
     ctx_len: u64,
@@ -30,7 +31,7 @@ pub(crate) fn answer_verify(
     }
 }
 
-/// The verified program, or none, and then it is told why.
+/// Returns the verified program, or `None` after appending why it is refused.
 pub(crate) fn verified(
     alloc: Global,
     ctx_len: u64,

@@ -1,4 +1,4 @@
-//! Helpers that keep the bytes that went over.
+//! Helpers that record the bytes that pass through them.
 
 ghost use Rattle.std.specs.Prelude.{◌≡◌, length, false, refl, true};
 
@@ -6,7 +6,7 @@ use rb_interp::{Done, Helpers, Listed};
 use rb_lend::{Lent, Sheet};
 use std::alloc::{AllocError, Global};
 
-/// Helpers that answer as others do, and keep the bytes of each record that is submitted or discarded, in order.
+/// Helpers that answer as others do, and record the bytes of each record that is submitted or discarded, in order.
 #[derive(Drop)]
 pub(crate) struct Witness {
     listed: Listed,
@@ -20,12 +20,12 @@ impl Witness {
         Witness { listed, bytes }
     }
 
-    /// The bytes of all records that were submitted or discarded.
+    /// Returns the bytes of all records that were submitted or discarded.
     pub(crate) fn bytes(&self) -> &[u8] {
         self.bytes.as_slice()
     }
 
-    // Keeps some bytes, where there is memory for them.
+    // Records some bytes, if there is memory for them.
     fn keep(&mut self, bytes: &[u8])
         ensures { self.new.listed ≡ self.old.listed }
     {

@@ -1,4 +1,4 @@
--- Seats that are kept beside the ring that they were opened with.
+-- Seats that are kept with the ring that they were opened with.
 use Rattle.std.specs.Prelude.{◌≡◌, List, All}
 use Rattle.rb_ledger.specs.Seats.{Shared, WorkerSeat}
 
@@ -6,6 +6,6 @@ use Rattle.rb_ledger.specs.Seats.{Shared, WorkerSeat}
 abbrev pub IsOwnSeat : Shared → WorkerSeat → Type 0
 IsOwnSeat ring seat = (seat.tag ≡ ring.tag) × (seat.ring ≡ ring.ring)
 
--- all of them were
+-- all seats were opened with the ring
 abbrev pub AreOwnSeats : Shared → List WorkerSeat → Type 0
 AreOwnSeats ring seats = All (IsOwnSeat ring) seats

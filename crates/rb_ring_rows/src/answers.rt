@@ -1,4 +1,4 @@
-//! What the calls of a ring answer, as text. Each word and number is told behind a space.
+//! The answers of a ring's calls as text. Each word and number is preceded by a space.
 
 use crate::text::Text;
 use rb_chapter_ring::{Chapter, OpenFault, ReserveFault};
@@ -7,7 +7,7 @@ use rb_history::{Counts, Entry, Notice, SetupFault, Taken, Tally};
 use rb_ledger::BindFault;
 use rb_lend::{Lent, Sheet};
 
-/// A granted record: its four numbers and its bytes.
+/// Appends a granted record: its four numbers and its bytes.
 pub(crate) fn tell_granted(out: &mut Text, record: &PlainReservation) {
     out.word("granted");
     tell_record(out, record);
@@ -24,7 +24,7 @@ fn tell_record(out: &mut Text, record: &PlainReservation) {
     );
 }
 
-/// The four numbers of a record.
+/// Appends the four numbers of a record.
 pub(crate) fn tell_numbers(out: &mut Text, pos: u64, worker: u32, serial: u64, len: u32) {
     out.field("pos", pos);
     out.field("worker", u64::from(worker));
@@ -32,7 +32,7 @@ pub(crate) fn tell_numbers(out: &mut Text, pos: u64, worker: u32, serial: u64, l
     out.field("len", u64::from(len));
 }
 
-/// Why no record was granted, and the sheet that was handed back.
+/// Appends why no record was granted, and the sheet that was handed back.
 pub(crate) fn tell_refusal(out: &mut Text, fault: &str, back: &Sheet) {
     out.word("refused");
     out.word(fault);
@@ -40,7 +40,7 @@ pub(crate) fn tell_refusal(out: &mut Text, fault: &str, back: &Sheet) {
     out.bytes(back.bytes());
 }
 
-/// Whether a notice is due.
+/// Appends whether a notice is due.
 pub(crate) fn tell_notice(out: &mut Text, notice: Notice) {
     match notice {
         Notice::Due => out.word("due"),
@@ -48,7 +48,7 @@ pub(crate) fn tell_notice(out: &mut Text, notice: Notice) {
     }
 }
 
-/// What a take found.
+/// Appends what a take found.
 pub(crate) fn tell_taken(out: &mut Text, taken: &Taken) {
     match taken {
         Taken::Event(pos, worker, serial, sheet) => {
@@ -62,14 +62,14 @@ pub(crate) fn tell_taken(out: &mut Text, taken: &Taken) {
     }
 }
 
-/// A record that was given up.
+/// Appends a discarded record.
 pub(crate) fn tell_skipped(out: &mut Text, pos: u64, len: u32) {
     out.word("skipped");
     out.field("pos", pos);
     out.field("len", u64::from(len));
 }
 
-/// How many records were taken, and each of them.
+/// Appends how many records were taken, and each of them.
 pub(crate) fn tell_all_taken(out: &mut Text, many: usize, taken: &[Taken]) {
     out.field("took", many as u64);
     for one in taken {
@@ -78,7 +78,7 @@ pub(crate) fn tell_all_taken(out: &mut Text, many: usize, taken: &[Taken]) {
     }
 }
 
-/// The six counts.
+/// Appends the six counts.
 pub(crate) fn tell_counts(out: &mut Text, counts: Counts) {
     out.field("made", counts.made);
     out.field("refused", counts.refused);
@@ -88,7 +88,7 @@ pub(crate) fn tell_counts(out: &mut Text, counts: Counts) {
     out.field("busy", counts.busy);
 }
 
-/// A worker's four numbers.
+/// Appends a worker's four numbers.
 pub(crate) fn tell_tally(out: &mut Text, tally: Tally) {
     out.field("made", tally.made);
     out.field("refused", tally.refused);
@@ -96,7 +96,7 @@ pub(crate) fn tell_tally(out: &mut Text, tally: Tally) {
     out.field("discarded", tally.discarded);
 }
 
-/// How many entries there are, and each of them: `res W K N P`, `full W N`, `sub P`, `dis P` or `take P`.
+/// Appends the number of entries, and each of them: `res W K N P`, `full W N`, `sub P`, `dis P` or `take P`.
 pub(crate) fn tell_entries(out: &mut Text, entries: &[Entry]) {
     out.number(entries.len() as u64);
     for entry in entries {
@@ -125,7 +125,7 @@ fn tell_reserve(out: &mut Text, worker: u32, serial: u64, len: u32, pos: u64) {
     out.number(pos);
 }
 
-/// What a submit or a discard answered; the reservation that was handed back, where it was stray.
+/// Appends the answer of a submit or a discard. Returns the reservation if it was stray and handed back.
 pub(crate) fn tell_end(answer: Result<Notice, Stray>, out: &mut Text) -> Option<PlainReservation> {
     match answer {
         Ok(notice) => {
@@ -140,13 +140,13 @@ pub(crate) fn tell_end(answer: Result<Notice, Stray>, out: &mut Text) -> Option<
     }
 }
 
-/// The chapter that was handed out.
+/// Appends the chapter that was handed out.
 pub(crate) fn tell_handed_out(out: &mut Text, chapter: &Chapter) {
     out.field("chapter", chapter.number());
     out.field("used", u64::from(chapter.used()));
 }
 
-/// Why a ring of these numbers is not opened.
+/// Returns the word for the reason why a ring with these numbers is not opened.
 pub(crate) fn setup_word(fault: SetupFault) -> &'static str {
     match fault {
         SetupFault::Size => "refused size",
@@ -155,7 +155,7 @@ pub(crate) fn setup_word(fault: SetupFault) -> &'static str {
     }
 }
 
-/// Why a ring over chapters is not opened.
+/// Returns the word for the reason why a ring over chapters is not opened.
 pub(crate) fn open_word(fault: OpenFault) -> &'static str {
     match fault {
         OpenFault::Size => "refused size",
@@ -166,7 +166,7 @@ pub(crate) fn open_word(fault: OpenFault) -> &'static str {
     }
 }
 
-/// Why a ring over chapters grants no record.
+/// Returns the word for the reason why a ring over chapters grants no record.
 pub(crate) fn reserve_word(fault: ReserveFault) -> &'static str {
     match fault {
         ReserveFault::Full => "full",
@@ -177,7 +177,7 @@ pub(crate) fn reserve_word(fault: ReserveFault) -> &'static str {
     }
 }
 
-/// Why chapters are not bound.
+/// Returns the word for the reason why chapters do not bind.
 pub(crate) fn bind_word(fault: BindFault) -> &'static str {
     match fault {
         BindFault::Number => "not bound number",

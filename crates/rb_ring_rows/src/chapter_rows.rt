@@ -1,4 +1,4 @@
-//! Rows on chapters, which a ring keeps or a script has by name.
+//! Rows on chapters, either those that a ring keeps or those that a script has by name.
 
 use crate::answers::{tell_entries, tell_handed_out, tell_numbers, tell_tally};
 use crate::row::RingRow;
@@ -12,7 +12,7 @@ pub(crate) const VERBS: [&str; 10] = [
     "chapter", "keeper", "kept", "clear", "after", "meets", "show", "opening", "closing", "entries",
 ];
 
-/// What a row on chapters answers.
+/// Answers a row on chapters.
 pub(crate) fn answer(script: &mut RowScript, row: &RingRow<'_>, out: &mut Text) {
     let (first, second) = (row.name(0), row.name(1));
     match row.form() {
@@ -37,7 +37,7 @@ fn clear(script: &mut RowScript, name: &str, out: &mut Text) {
     }
 }
 
-// Whether a chapter meets the next one.
+// Appends whether a chapter meets the next one.
 fn compare(script: &RowScript, name: &str, next: &str, out: &mut Text) {
     match (script.chapters.get(name), script.chapters.get(next)) {
         (Some(chapter), Some(next)) => out.word(yes_or_no(chapter.meets(next))),
@@ -49,7 +49,7 @@ fn yes_or_no(answer: bool) -> &'static str {
     if answer { "yes" } else { "no" }
 }
 
-// Makes an empty chapter.
+// Creates an empty chapter.
 fn make(script: &mut RowScript, row: &RingRow<'_>, out: &mut Text) {
     let (room, workers) = (narrow(row.number(0)), narrow(row.number(1)));
     if room < 8 || room > 1_048_576 || workers == 0 || workers > 256 {
@@ -70,7 +70,7 @@ fn make(script: &mut RowScript, row: &RingRow<'_>, out: &mut Text) {
     }
 }
 
-// Makes a keeper of a chapter, which has no name then.
+// Creates a keeper of a chapter. The chapter's name is removed.
 fn make_keeper(script: &mut RowScript, row: &RingRow<'_>, out: &mut Text) {
     match script.chapters.remove(row.name(1)) {
         Some(chapter) => {
@@ -82,7 +82,7 @@ fn make_keeper(script: &mut RowScript, row: &RingRow<'_>, out: &mut Text) {
     }
 }
 
-// Gives the chapter of a keeper a name. The keeper is gone then.
+// Gives the chapter of a keeper a name, and drops the keeper.
 fn end_keeper(script: &mut RowScript, name: &str, chapter: &str, out: &mut Text) {
     match script.keepers.remove(name) {
         Some(keeper) => {
@@ -94,7 +94,7 @@ fn end_keeper(script: &mut RowScript, name: &str, chapter: &str, out: &mut Text)
     }
 }
 
-// Opens a chapter after another, where it may.
+// Opens a chapter after another, if that is allowed.
 fn open_after(script: &mut RowScript, name: &str, earlier: &str, out: &mut Text) {
     let Some(mut chapter) = script.chapters.remove(name) else {
         return out.word("fault: no such chapter");
@@ -119,7 +119,7 @@ fn open_behind(chapter: &mut Chapter, earlier: &Chapter, out: &mut Text) {
     }
 }
 
-// Tells of the chapter that a ring keeps, or of that which has the name.
+// Appends a description of the chapter that a ring keeps, or of the chapter with this name.
 fn show(script: &RowScript, verb: &str, name: &str, out: &mut Text) {
     if let Some(twins) = script.rings.get(name) {
         tell(verb, twins.chapter(), out);
@@ -147,7 +147,7 @@ fn tell_state(chapter: &Chapter, out: &mut Text) {
     out.field("owed", u64::from(chapter.owed()));
 }
 
-// What a chapter begins with, or stands for at its end.
+// Appends the summary at the beginning or the end of a chapter.
 fn tell_opening(opening: &Standing, out: &mut Text) {
     let numbers = opening.numbers();
     out.field("size", numbers.size);

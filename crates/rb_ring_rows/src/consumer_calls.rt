@@ -20,13 +20,13 @@ pub(crate) enum ConsumerCall<'a> {
     TakeMany(usize),
     Fill(usize),
     Used,
-    /// Has the ring go on in an empty chapter, in whose place that is put which was handed out.
+    /// Makes the ring continue in an empty chapter, which is replaced by the chapter that was handed out.
     HandOut(&'a mut Option<Chapter>),
-    /// Has a keeper look at the ring's chapter.
+    /// Makes a keeper check the ring's chapter.
     Turn(&'a mut Keeper),
 }
 
-/// A call at a ring, by a consumer's seat.
+/// Makes a consumer's call at a ring.
 pub(crate) fn consume<R: Wait>(
     rt: &R,
     alloc: Global,
@@ -89,7 +89,7 @@ fn take_many<R: Wait>(
     }
 }
 
-// Has a ring go on in an empty chapter, by a consumer's seat; the one that comes back is the chapter that was handed out, or the empty one.
+// Makes a ring continue in an empty chapter. Returns the chapter that was handed out, or the empty one.
 fn hand_out<R: Wait>(
     rt: &R,
     ring: &SharedRing,
@@ -116,7 +116,8 @@ fn hand_out<R: Wait>(
     }
 }
 
-// Fills a batch for so many records, and tells what it lends: all records, how many events, and how many sheets it gives back.
+// Fills a batch of up to this many records, and appends what it lends: all records, the number of events, and the
+// number of sheets that it returns.
 fn fill<R: Wait>(
     rt: &R,
     alloc: Global,
@@ -158,7 +159,7 @@ fn count_events(batch: &Batch) -> u64 {
     events
 }
 
-// How many of so many sheets a batch gives back.
+// Returns how many of this many sheets a batch returns.
 fn count_sheets(batch: &mut Batch, count: usize) -> u64 {
     let mut sheets = 0u64;
     for _ in 0..count {
@@ -182,7 +183,7 @@ fn tell_item(item: &Item<'_>, out: &mut Text) {
     }
 }
 
-// Has a keeper look at a ring's chapter, by a consumer's seat.
+// Makes a keeper check a ring's chapter.
 fn turn<R: Wait>(
     rt: &R,
     ring: &SharedRing,

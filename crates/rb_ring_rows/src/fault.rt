@@ -6,7 +6,7 @@ use thiserror::Error;
 /// Why the rows were not answered.
 #[derive(Clone, Copy, Debug, Error)]
 pub(crate) enum RingRowsFault {
-    /// There was no memory.
+    /// Memory could not be allocated.
     #[error("no memory")]
     Memory,
     /// The input or the output failed.

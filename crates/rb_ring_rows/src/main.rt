@@ -1,30 +1,36 @@
-//! Answers rows over rings. Each line of the input is a row, and is printed again with what the calls that it names answered behind it, as
-//! `take a -> event pos 0 ..`. Lines that begin with `#` are printed alone. A script ends at an empty line: after it nothing has a name.
+//! Answers rows on rings. Each line of the input is a row, and is printed followed by the answers of the calls that it
+//! names, as in `take a -> event pos 0 ..`. Lines that begin with `#` are printed unchanged. A script ends at an empty
+//! line, which removes all names.
 //!
-//! A row has a verb, names, numbers, and behind a colon bytes in hex, each run of equal ones as `2a*8`:
+//! A row has a verb, names, numbers, and, after a colon, bytes in hex, with runs of equal bytes as `2a*8`:
 //!
 //! ```text
-//! open RING SIZE START WORKERS ROOM     opens a ring, which is two: one that keeps a chapter of its history at a time, and its twin, which keeps all of it
-//!                                       in a list; each call is made on both, and where they do not answer or stand alike, the row says how
-//! reserve RING RECORD WORKER LEN        hands in a sheet full of ff; RECORD names what is granted
+//! open RING SIZE START WORKERS ROOM     opens a ring, which is two: one that keeps a chapter of its history at a time,
+//!                                       and its twin, which keeps all of it in a list. Each call is made on both, and
+//!                                       if their answers or states differ, the row says how
+//! reserve RING RECORD WORKER LEN        passes a sheet full of ff; RECORD names what is granted
 //! write RECORD AT : BYTES, or a sheet   submit RING RECORD FLAGS              discard RING RECORD FLAGS
 //! output RING WORKER FLAGS : BYTES      take RING [N]                         query RING WHAT
 //! counts RING                           written RING: the tape of all that was taken
-//! share RING SIZE START WORKERS ROOM    opens a shared ring. A call of a worker names the worker of its seat in front of its last number, as
-//!                                       `submit s r 0 FLAGS`; and where the seat is another ring's, that ring behind the other names, as `take s t`
+//! share RING SIZE START WORKERS ROOM    opens a shared ring. A worker's call has its seat's worker before the last
+//!                                       number, as `submit s r 0 FLAGS`; for another ring's seat, that ring follows
+//!                                       the other names, as `take s t`
 //! audit RING WORKER                     seat RING WORKER                      used RING
-//! consumer RING                         fill RING N: a batch                  close RING, close RING 1: with all seats, or all but the last
-//! close RING OTHER: with OTHER's seats
-//! chapter NAME ROOM WORKERS             clear NAME                            after NAME EARLIER: opens NAME behind EARLIER
-//! meets NAME NEXT                       handout RING NAME: NAME is the chapter that was handed out then
+//! consumer RING                         fill RING N: a batch                  close RING: with all seats
+//! close RING 1: with all but the last   close RING OTHER: with OTHER's seats  chapter NAME ROOM WORKERS
+//! clear NAME                            after NAME EARLIER: opens NAME after EARLIER
+//! meets NAME NEXT                       handout RING NAME: NAME is then the chapter that was handed out
 //! bind RING NAME..                      keeper KEEPER NAME MARGIN             turn RING KEEPER
-//! kept KEEPER NAME                      show NAME, opening NAME, closing NAME, entries NAME: of a chapter, or of the one that a ring keeps
+//! kept KEEPER NAME                      show NAME, opening NAME, closing NAME, entries NAME: of a chapter, or of the
+//!                                       one that a ring keeps
 //! sheet SHEET LEN                       renew SHEET LEN                       wipe SHEET
 //! span LEN                              setup SIZE START WORKERS              notice CONSUMER POS FLAGS
-//! encode LEN BUSY DISCARD PAGE          decode : BYTES                        tape SIZE START : BYTES, read as a whole and in pieces
+//! encode LEN BUSY DISCARD PAGE          decode : BYTES                        tape SIZE START : BYTES, read as a whole
+//!                                                                             and in pieces
 //! ```
 //!
-//! A row that is none of these, or names what is not there, is answered by `fault:` and why, and changes nothing.
+//! A row that is none of these, or that has an unknown name, is answered by `fault:` and the reason, and changes
+//! nothing.
 #![tactic(auto)]
 
 mod answers;
@@ -96,7 +102,7 @@ fn answers_of<T: Wait>(rt: &T, alloc: Global, bytes: &[u8]) -> Text {
     answers
 }
 
-// Repeats a line, with its answer behind it where it is a row.
+// Repeats a line, followed by its answer if it is a row.
 fn answer_line<T: Wait>(rt: &T, script: &mut RowScript, line: &[u8], answers: &mut Text) {
     let line = str::from_utf8(line).unwrap_or("fault: no text");
     answers.push(line);

@@ -1,24 +1,24 @@
-//! A row in its parts.
+//! A row, split into its parts.
 
 use std::alloc::{AllocError, Global};
 
-// How many bytes a row may spell.
+// The maximum number of bytes in a row.
 const MOST_BYTES: usize = 1 << 20;
 
-// How a form spells so many names, and so many numbers. More are in no form.
+// How a form writes this many names, and this many numbers. No form has more.
 const NAMES: [&str; 4] = ["", " x", " x x", " x x x"];
 
 const NUMBERS: [&str; 5] = ["", " 0", " 0 0", " 0 0 0", " 0 0 0 0"];
 
-// What a line is answered that has a word which is none: no name, no number below 2^64, or behind the colon no run of bytes; or has more than
-// 1,048,576 bytes.
+// The answer to a line with an invalid word (not a name, a number below 2^64, or a run of bytes after the colon), or
+// with more than 1,048,576 bytes.
 const NO_WORD: &str = "fault: no word";
 
-// What a line is answered for which there is no memory.
+// The answer to a line for which no memory can be allocated.
 const NO_MEMORY: &str = "fault: no memory";
 
-/// A line in its parts: its first word, the names and the numbers behind it, each in their order, and the bytes behind a colon. A name begins with
-/// a letter, a number with a digit. Bytes are runs: `2a` or `2a*8`.
+/// A line, split into its parts: its first word, the names and the numbers after it, each in order, and the bytes after
+/// a colon. A name begins with a letter, a number with a digit. Bytes are runs: `2a` or `2a*8`.
 #[derive(Drop)]
 pub(crate) struct RingRow<'a> {
     pub(crate) verb: &'a str,
@@ -26,12 +26,12 @@ pub(crate) struct RingRow<'a> {
     pub(crate) numbers: Vec<u64>,
     pub(crate) bytes: Vec<u8>,
     form: String,
-    // Why the line is no row.
+    // Why the line is not a row.
     fault: Option<&'static str>,
 }
 
 impl<'a> RingRow<'a> {
-    /// The row that a line spells, or what is said of a line that is none.
+    /// Parses a row, or returns the answer to a line that is none.
     pub(crate) fn read(alloc: Global, line: &'a str) -> Result<RingRow<'a>, &'static str> {
         let mut row = RingRow {
             verb: "",
@@ -48,12 +48,13 @@ impl<'a> RingRow<'a> {
         }
     }
 
-    /// The verb, an `x` for each name and a `0` for each number, with spaces between them: of `reserve a r 1 16` it is `reserve x x 0 0`.
+    /// The verb, an `x` for each name and a `0` for each number, separated by spaces: `reserve a r 1 16` has the form
+    /// `reserve x x 0 0`.
     pub(crate) fn form(&self) -> &str {
         self.form.as_str()
     }
 
-    /// The name at a place; an empty one where there are not so many.
+    /// Returns the name at a place, or an empty one if there are fewer.
     pub(crate) fn name(&self, place: usize) -> &'a str {
         match self.names.get(place) {
             Some(name) => *name,
@@ -61,7 +62,7 @@ impl<'a> RingRow<'a> {
         }
     }
 
-    /// The number at a place; 0 where there are not so many.
+    /// Returns the number at a place, or 0 if there are fewer.
     pub(crate) fn number(&self, place: usize) -> u64 {
         match self.numbers.get(place) {
             Some(number) => *number,
@@ -128,7 +129,7 @@ impl<'a> RingRow<'a> {
     }
 }
 
-// The byte of a run, and how many of it there are.
+// Returns the byte of a run, and the length of the run.
 fn run_of(run: &str) -> Option<(u8, usize)> {
     match run.split_once('*') {
         Some((digits, times)) => Some((hex_byte(digits)?, decimal(times)?)),
@@ -136,7 +137,7 @@ fn run_of(run: &str) -> Option<(u8, usize)> {
     }
 }
 
-// The number that decimal digits spell. `parse` alone would take a plus in front.
+// Parses a decimal number. `parse` alone would accept a leading plus sign.
 fn decimal(digits: &str) -> Option<usize> {
     if digits.starts_with('+') {
         return None;
@@ -144,7 +145,7 @@ fn decimal(digits: &str) -> Option<usize> {
     digits.parse().ok()
 }
 
-// The byte that two hex digits spell.
+// Parses a byte of two hex digits.
 fn hex_byte(digits: &str) -> Option<u8> {
     if digits.len() != 2 || digits.starts_with('+') {
         return None;

@@ -1,4 +1,4 @@
-//! A script's rings, records and chapters, and what its rows answer.
+//! A script's rings, records and chapters, and the answers to its rows.
 
 ghost use Rattle.std.specs.Prelude.{◌≡◌, ◌<◌, IfSome};
 
@@ -17,7 +17,7 @@ use std::alloc::Global;
 use std::collections::BTreeMap;
 use std::sync::Wait;
 
-/// The longest record that is asked for: what the greatest ring has.
+/// The maximum length of a requested record: the size of the largest ring.
 pub(crate) const LONGEST: u64 = 1 << 26;
 
 // The verbs of calls on a ring and its records.
@@ -25,16 +25,16 @@ const RING_VERBS: [&str; 7] = [
     "open", "reserve", "write", "submit", "discard", "output", "handout",
 ];
 
-// The verbs that take records of a ring, or ask it for numbers.
+// The verbs that take records from a ring, or query it.
 const ASKING_VERBS: [&str; 4] = ["take", "query", "counts", "written"];
 
-/// How many records one call takes at most.
+/// The maximum number of records that one call takes.
 pub(crate) const MOST_TAKEN: u64 = 1 << 16;
 
-/// What a row answers that has not the words of its command, or whose numbers are too great for it.
+/// The answer to a row that does not have the words of its command, or whose numbers are too large for it.
 pub(crate) const WRONG_WORDS: &str = "fault: wrong words";
 
-/// The numbers with which a ring is opened: its size, its start, how many workers it has, and the room of its chapters.
+/// The numbers with which a ring is opened: its size, its start, its number of workers, and the room of its chapters.
 #[derive(Clone, Copy)]
 pub(crate) struct OpeningNumbers {
     pub(crate) size: u64,
@@ -43,7 +43,7 @@ pub(crate) struct OpeningNumbers {
     pub(crate) room: u32,
 }
 
-/// What has a name in a script.
+/// Everything that has a name in a script.
 #[derive(Drop)]
 pub(crate) struct RowScript {
     pub(crate) alloc: Global,
@@ -55,12 +55,12 @@ pub(crate) struct RowScript {
     pub(crate) closings: BTreeMap<String, Closing>,
     pub(crate) keepers: BTreeMap<String, Keeper>,
     pub(crate) sheets: BTreeMap<String, Sheet>,
-    /// How many shared rings were asked for; the tag of the last one.
+    /// The number of shared rings that were requested, and the tag of the last one.
     pub(crate) tags: u64,
 }
 
 impl RowScript {
-    /// A script in which nothing has a name yet.
+    /// A script without names.
     pub(crate) fn new(alloc: Global) -> RowScript {
         RowScript {
             alloc,
@@ -76,12 +76,12 @@ impl RowScript {
         }
     }
 
-    /// Forgets all names.
+    /// Removes all names.
     pub(crate) fn clear(&mut self) {
         *self = RowScript::new(self.alloc);
     }
 
-    /// What a row answers.
+    /// Returns the answer to a row.
     pub(crate) fn answer<R: Wait>(&mut self, rt: &R, line: &str) -> Text {
         let mut out = Text::new(self.alloc);
         match RingRow::read(self.alloc, line) {
@@ -91,7 +91,8 @@ impl RowScript {
         out
     }
 
-    // A name of a shared ring stands for that ring, and of a closed one for it, before it stands for anything else.
+    // A name of a shared ring refers to that ring, and that of a closed ring to its closing, before anything else with
+    // this name.
     fn answer_row<R: Wait>(&mut self, rt: &R, row: &RingRow<'_>, out: &mut Text) {
         let first = row.name(0);
         if row.verb == "share" {
@@ -188,7 +189,7 @@ impl RowScript {
         }
     }
 
-    // Takes records, or asks for numbers.
+    // Takes records, or queries a ring.
     fn ask(&mut self, row: &RingRow<'_>, out: &mut Text) {
         if row.names.len() != 1 {
             return out.word(WRONG_WORDS);
@@ -230,7 +231,7 @@ impl RowScript {
     }
 }
 
-// Takes records of a ring, or asks it for numbers.
+// Takes records from a ring, or queries it.
 fn ask(alloc: Global, twins: &mut TwinRings, row: &RingRow<'_>, out: &mut Text) {
     let number = row.number(0);
     match row.form() {
@@ -243,7 +244,7 @@ fn ask(alloc: Global, twins: &mut TwinRings, row: &RingRow<'_>, out: &mut Text) 
     }
 }
 
-/// The numbers of a row that opens a ring.
+/// Returns the numbers of a row that opens a ring.
 pub(crate) fn ring_numbers(row: &RingRow<'_>) -> OpeningNumbers {
     OpeningNumbers {
         size: row.number(0),
@@ -253,7 +254,7 @@ pub(crate) fn ring_numbers(row: &RingRow<'_>) -> OpeningNumbers {
     }
 }
 
-/// The chapters of these names, taken out of the map in their order, up to the first that is not there.
+/// Removes the chapters with these names from the map and returns them in order, up to the first that does not exist.
 pub(crate) fn collect(
     alloc: Global,
     map: &mut BTreeMap<String, Chapter>,
@@ -283,7 +284,7 @@ pub(crate) fn keep_chapters(
     }
 }
 
-/// Gives a value a name. What had the name before is dropped.
+/// Gives a value a name. The previous value with this name is dropped.
 pub(crate) fn keep<T: Drop>(
     alloc: Global,
     map: &mut BTreeMap<String, T>,
@@ -300,7 +301,7 @@ pub(crate) fn keep<T: Drop>(
     }
 }
 
-/// The number, or 2^32 - 1 where it is greater.
+/// Returns the number, or 2^32 - 1 if it is greater.
 pub(crate) fn narrow(number: u64) -> u32 {
     u32::try_from(number).unwrap_or(u32::MAX)
 }

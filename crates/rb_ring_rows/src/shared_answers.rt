@@ -1,4 +1,4 @@
-//! What rings with hands answer of reservations, as text.
+//! The answers of rings with hands for reservations, as text.
 
 use crate::answers::{reserve_word, tell_notice, tell_numbers, tell_refusal};
 use crate::sheets::write_at;
@@ -7,7 +7,7 @@ use rb_history::Notice;
 use rb_lend::{Lent, Sheet};
 use rb_shared_ring::{Reservation, ReserveFault, Seat};
 
-/// What a reserve answered, and the reservation that it granted.
+/// Appends the answer of a reserve. Returns the reservation that it granted.
 pub(crate) fn tell_reserved(
     answer: Result<Reservation, (ReserveFault, Sheet)>,
     out: &mut Text,
@@ -25,7 +25,7 @@ pub(crate) fn tell_reserved(
     }
 }
 
-/// What a submit or a discard answered; the reservation that was handed back, where it was.
+/// Appends the answer of a submit or a discard. Returns the reservation if it was handed back.
 pub(crate) fn tell_given_back(
     answer: Result<Notice, Reservation>,
     out: &mut Text,
@@ -43,7 +43,7 @@ pub(crate) fn tell_given_back(
     }
 }
 
-/// Writes bytes of a reserved record from byte `at` on, where they fit.
+/// Writes bytes into a reserved record from byte `at` on, if they fit.
 pub(crate) fn write_record(record: &mut Reservation, at: u64, bytes: &[u8], out: &mut Text) {
     if write_at(record, at, bytes) {
         tell_contents(record, out);
@@ -52,7 +52,7 @@ pub(crate) fn write_record(record: &mut Reservation, at: u64, bytes: &[u8], out:
     }
 }
 
-/// The position of what is in each of a seat's hands; one that is free is a dash.
+/// Appends the position of the record in each of a seat's hands, with a dash for a free hand.
 pub(crate) fn tell_hands(seat: &Seat, out: &mut Text) {
     out.word("hands");
     for hand in 0..4 {
@@ -63,7 +63,7 @@ pub(crate) fn tell_hands(seat: &Seat, out: &mut Text) {
     }
 }
 
-/// The four numbers of a reservation.
+/// Appends the four numbers of a reservation.
 pub(crate) fn tell_record(record: &Reservation, out: &mut Text) {
     tell_numbers(
         out,
@@ -74,7 +74,7 @@ pub(crate) fn tell_record(record: &Reservation, out: &mut Text) {
     );
 }
 
-/// The four numbers of a reservation, and its bytes.
+/// Appends the four numbers of a reservation, and its bytes.
 pub(crate) fn tell_contents(record: &Reservation, out: &mut Text) {
     tell_record(record, out);
     out.contents(record.bytes());

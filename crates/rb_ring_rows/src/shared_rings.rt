@@ -19,7 +19,7 @@ use rb_shared_ring::{
 use std::alloc::Global;
 use std::sync::Wait;
 
-/// A shared ring and its seats, those of its workers in their order.
+/// A shared ring and its seats (the workers' handles to it), in the workers' order.
 #[derive(Drop)]
 pub(crate) struct SharedPlace {
     ring: SharedRing,
@@ -44,7 +44,8 @@ pub(crate) enum WorkerCall {
     Audit,
 }
 
-/// What a worker's call is made with: a sheet, or a record. A record that the call grants or hands back is here afterwards.
+/// The argument of a worker's call: a sheet, or a record. After the call it is the record that was granted or handed
+/// back.
 #[derive(Drop)]
 pub(crate) struct Load {
     pub(crate) sheet: Option<Sheet>,
@@ -83,12 +84,12 @@ impl SharedPlace {
         }
     }
 
-    /// Whether there is a worker of this number.
+    /// Whether a worker has this number.
     pub(crate) fn has_worker(&self, worker: u64) -> bool {
         worker < self.seats.len() as u64
     }
 
-    /// A call of a worker, by its seat of this ring, at another ring or at this one.
+    /// Makes a worker's call by its seat of this ring, at another ring or at this one.
     pub(crate) fn work<R: Wait>(
         &mut self,
         rt: &R,
@@ -112,7 +113,7 @@ impl SharedPlace {
         }
     }
 
-    /// A call of the consumer, by this ring's seat, at another ring or at this one.
+    /// Makes a consumer's call by this ring's seat, at another ring or at this one.
     pub(crate) fn consume<R: Wait>(
         &mut self,
         rt: &R,
@@ -132,7 +133,7 @@ impl SharedPlace {
         }
     }
 
-    /// What a worker's seat counted.
+    /// Appends the counts of a worker's seat.
     pub(crate) fn tell_seat(&self, worker: u64, out: &mut Text) {
         match self.seats.get(worker as usize) {
             Some(seat) => {
@@ -148,7 +149,7 @@ impl SharedPlace {
         }
     }
 
-    /// What the consumer's seat counted.
+    /// Appends the counts of the consumer's seat.
     pub(crate) fn tell_consumer(&self, out: &mut Text) {
         let seat = &self.consumer;
         out.field("tag", seat.tag());
@@ -161,7 +162,7 @@ impl SharedPlace {
         out.field("chapters", seat.chapters());
     }
 
-    /// Closes the ring with all its seats, or with all but the last. Where it is not closed, all is as before.
+    /// Closes the ring with all its seats, or with all but the last. If it is not closed, everything is as before.
     pub(crate) fn close<R: Wait>(self, rt: &R, all: bool) -> Result<Closing, SharedPlace> {
         let SharedPlace {
             ring,
@@ -232,7 +233,7 @@ impl SharedPlace {
     }
 }
 
-// Takes the last seat of a ring's own out of them.
+// Removes the last of a ring's own seats from the list.
 fn last_of(ring: &SharedRing, seats: &mut Vec<Seat>) -> Option<Seat>
     requires own { AreOwnSeats ring.now seats.old.items }
     ensures own { AreOwnSeats ring.now seats.new.items }
@@ -242,7 +243,7 @@ fn last_of(ring: &SharedRing, seats: &mut Vec<Seat>) -> Option<Seat>
     seats.pop()
 }
 
-// Puts a ring's last seat back behind the others. There is room for it.
+// Appends a ring's last seat again. There is room for it.
 fn put_back(ring: &SharedRing, seats: &mut Vec<Seat>, last: Option<Seat>)
     requires own { AreOwnSeats ring.now seats.old.items }
     requires last { IfSome last (IsOwnSeat ring.now) }
@@ -294,7 +295,7 @@ fn work<R: Wait>(
     }
 }
 
-// Puts what a call gave back in the place of the record that it was made with.
+// Replaces the record that a call was made with by the one that it returned.
 fn put(place: &mut Option<Reservation>, record: Option<Reservation>) {
     *place = record;
 }

@@ -1,4 +1,4 @@
-//! Rows on shared rings. Behind the ring a row may name another one, by whose seat the call is made then.
+//! Rows on shared rings. After the ring, a row may name another ring, by whose seat the call is then made.
 
 use crate::answers::{bind_word, tell_counts, tell_entries};
 use crate::consumer_calls::ConsumerCall;
@@ -15,16 +15,16 @@ use std::alloc::Global;
 use std::collections::BTreeMap;
 use std::sync::Wait;
 
-// The verbs of a worker's calls that name a record behind the ring.
+// The verbs of a worker's calls that name a record after the ring.
 const RECORD_VERBS: [&str; 3] = ["reserve", "submit", "discard"];
 
 // The verbs of a worker's other calls.
 const SEAT_VERBS: [&str; 3] = ["output", "query", "audit"];
 
-// The verbs of a consumer's calls that name nothing behind the ring.
+// The verbs of a consumer's calls that name nothing after the ring.
 const CONSUMER_VERBS: [&str; 3] = ["take", "used", "fill"];
 
-/// What a row answers whose first name is that of a shared ring.
+/// Answers a row whose first name is that of a shared ring.
 pub(crate) fn answer<R: Wait>(rt: &R, script: &mut RowScript, row: &RingRow<'_>, out: &mut Text) {
     if RECORD_VERBS.contains(&row.verb) {
         work(rt, script, row, 2, out);
@@ -59,7 +59,8 @@ pub(crate) fn share<R: Wait>(rt: &R, script: &mut RowScript, row: &RingRow<'_>, 
     }
 }
 
-// The ring by whose seat a row's call is made: it has the name at this place, or where there is none the first.
+// Returns the name of the ring by whose seat a row's call is made (the home): the name at this place, or else the first
+// one.
 fn home_of<'a>(row: &RingRow<'a>, place: usize) -> &'a str {
     if row.names.len() > place {
         row.name(place)
@@ -68,14 +69,14 @@ fn home_of<'a>(row: &RingRow<'a>, place: usize) -> &'a str {
     }
 }
 
-// Whether a row of a worker's call has its words, where the name of a home is at this place.
+// Whether a row has the words of a worker's call, if the home's name is at this place.
 fn has_words(row: &RingRow<'_>, place: usize) -> bool {
     let numbers = if row.verb == "audit" { 1 } else { 2 };
     let names = row.names.len();
     names >= place && names - place <= 1 && row.numbers.len() == numbers
 }
 
-// A call of a worker.
+// Makes a worker's call.
 fn work<R: Wait>(rt: &R, script: &mut RowScript, row: &RingRow<'_>, place: usize, out: &mut Text) {
     if !has_words(row, place) {
         return out.word(WRONG_WORDS);
@@ -95,7 +96,7 @@ fn work<R: Wait>(rt: &R, script: &mut RowScript, row: &RingRow<'_>, place: usize
     }
 }
 
-// The call that a row's words ask for.
+// Returns the call that a row's words request.
 fn worker_call(row: &RingRow<'_>) -> WorkerCall {
     let number = row.number(1);
     match row.verb {
@@ -108,7 +109,7 @@ fn worker_call(row: &RingRow<'_>) -> WorkerCall {
     }
 }
 
-// What a row's call is made with, or what is wrong with its words.
+// Returns the argument of a row's call, or what is wrong with its words.
 fn loaded(script: &mut RowScript, row: &RingRow<'_>) -> Result<Load, &'static str> {
     match row.verb {
         "reserve" => sheet_of(script.alloc, row.number(1)),
@@ -121,7 +122,7 @@ fn loaded(script: &mut RowScript, row: &RingRow<'_>) -> Result<Load, &'static st
     }
 }
 
-// A sheet for a record of so many bytes.
+// Returns a sheet of this many bytes.
 fn sheet_of(alloc: Global, n: u64) -> Result<Load, &'static str> {
     if n > LONGEST {
         Err(WRONG_WORDS)
@@ -150,7 +151,7 @@ fn with_record(record: Option<Reservation>) -> Result<Load, &'static str> {
     })
 }
 
-// Makes a worker's call at a row's ring, by its seat of the home, and keeps the record that is there then.
+// Makes a worker's call at a row's ring, by its seat of the home, and keeps the resulting record.
 fn work_by<R: Wait>(
     rt: &R,
     script: &mut RowScript,
@@ -167,7 +168,7 @@ fn work_by<R: Wait>(
     }
 }
 
-// The home is out of the map meanwhile, so that another ring alone is found there.
+// Meanwhile, the home is not in the map, so only another ring is found there.
 fn call_by<R: Wait>(
     rt: &R,
     script: &mut RowScript,
@@ -202,7 +203,7 @@ fn consume<R: Wait>(rt: &R, script: &mut RowScript, row: &RingRow<'_>, out: &mut
     );
 }
 
-// The call that a row's words ask for, where they are those of one.
+// Returns the call that a row's words request, if there is one.
 fn consumer_call(row: &RingRow<'_>) -> Option<ConsumerCall<'static>> {
     let n = row.number(0);
     match (row.verb, row.numbers.len()) {
@@ -214,7 +215,8 @@ fn consumer_call(row: &RingRow<'_>) -> Option<ConsumerCall<'static>> {
     }
 }
 
-// Makes a consumer's call at a ring, by the seat of the home. The home is out of the map meanwhile, so that another ring alone is found there.
+// Makes a consumer's call at a ring, by the home's seat. Meanwhile, the home is not in the map, so only another ring is
+// found there.
 fn consume_by<R: Wait>(
     rt: &R,
     alloc: Global,
@@ -230,7 +232,8 @@ fn consume_by<R: Wait>(
     }
 }
 
-// What is wrong with the words of a row that names a chapter or a keeper behind the ring, and maybe a home behind that; nothing where they are right.
+// Returns what is wrong with the words of a row that names a chapter or a keeper after the ring, and optionally a home
+// after that.
 fn wrong_words(script: &RowScript, row: &RingRow<'_>) -> Option<&'static str> {
     let names = row.names.len();
     if names < 2 || names > 3 || !row.numbers.is_empty() {
@@ -243,7 +246,7 @@ fn wrong_words(script: &RowScript, row: &RingRow<'_>) -> Option<&'static str> {
     }
 }
 
-// The consumer hands the ring's chapter out, by its own seat or by that of another ring.
+// Makes the consumer hand out the ring's chapter, by its own seat or by that of another ring.
 fn hand_out<R: Wait>(rt: &R, script: &mut RowScript, row: &RingRow<'_>, out: &mut Text) {
     if let Some(fault) = wrong_words(script, row) {
         return out.word(fault);
@@ -260,7 +263,7 @@ fn hand_out<R: Wait>(rt: &R, script: &mut RowScript, row: &RingRow<'_>, out: &mu
     }
 }
 
-// A keeper looks at the ring's chapter, by the ring's own consumer or by that of another ring.
+// Makes a keeper check the ring's chapter, by the ring's own consumer or by that of another ring.
 fn turn<R: Wait>(rt: &R, script: &mut RowScript, row: &RingRow<'_>, out: &mut Text) {
     if let Some(fault) = wrong_words(script, row) {
         return out.word(fault);
@@ -273,7 +276,7 @@ fn turn<R: Wait>(rt: &R, script: &mut RowScript, row: &RingRow<'_>, out: &mut Te
     consume_by(rt, script.alloc, &mut script.shared, ring, home, call, out);
 }
 
-// What a seat counted.
+// Appends the counts of a seat.
 fn tell_seats(script: &RowScript, row: &RingRow<'_>, out: &mut Text) {
     let Some(place) = script.shared.get(row.name(0)) else {
         return out.word(WRONG_WORDS);
@@ -285,7 +288,8 @@ fn tell_seats(script: &RowScript, row: &RingRow<'_>, out: &mut Text) {
     }
 }
 
-// Closes a ring with all its seats; where there is a number, with all but the last; where there is another ring, with that one's.
+// Closes a ring with all its seats; if the row has a number, with all but the last; if it names another ring, with that
+// ring's seats.
 fn close<R: Wait>(rt: &R, script: &mut RowScript, row: &RingRow<'_>, out: &mut Text) {
     match row.form() {
         "close x" => close_own(rt, script, row.name(0), true, out),
@@ -326,7 +330,8 @@ fn close_with<R: Wait>(rt: &R, script: &mut RowScript, ring: &str, other: &str, 
     }
 }
 
-// Tries to close a ring with the seats of another one. Both are out of the map then, and come back where the ring is not closed.
+// Tries to close a ring with the seats of another one. Both are removed from the map, and put back if the ring is not
+// closed.
 fn closed_with<R: Wait>(
     rt: &R,
     shared: &mut BTreeMap<String, SharedPlace>,
@@ -345,7 +350,7 @@ fn tell_closing(closing: &Closing, out: &mut Text) {
     out.field("chapter", closing.chapter().number());
 }
 
-/// Binds chapters to the history of a ring that was closed. Then the ring and the chapters are gone.
+/// Binds chapters to the history of a closed ring. The ring and the chapters are then gone.
 pub(crate) fn bind(script: &mut RowScript, row: &RingRow<'_>, out: &mut Text) {
     let ([ring, names @ ..], []) = (row.names.as_slice(), row.numbers.as_slice()) else {
         return out.word(WRONG_WORDS);

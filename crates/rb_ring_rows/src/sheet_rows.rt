@@ -1,4 +1,4 @@
-//! Rows on sheets, the bytes of records.
+//! Rows on sheets, the byte buffers of records.
 
 use crate::row::RingRow;
 use crate::script::{LONGEST, RowScript, WRONG_WORDS, keep};
@@ -9,7 +9,7 @@ use rb_lend::{Lent, Sheet};
 /// The verbs of rows on sheets.
 pub(crate) const VERBS: [&str; 3] = ["sheet", "renew", "wipe"];
 
-/// What a row on sheets answers.
+/// Answers a row on sheets.
 pub(crate) fn answer(script: &mut RowScript, row: &RingRow<'_>, out: &mut Text) {
     match row.form() {
         "sheet x 0" => make(script, row.name(0), row.number(0), out),
@@ -29,7 +29,7 @@ fn wipe(script: &mut RowScript, name: &str, out: &mut Text) {
     }
 }
 
-// Makes a sheet.
+// Creates a sheet.
 fn make(script: &mut RowScript, name: &str, n: u64, out: &mut Text) {
     if n > LONGEST {
         return out.word(WRONG_WORDS);
@@ -65,7 +65,7 @@ fn renewed(sheet: Sheet, n: u32) -> Sheet {
     }
 }
 
-/// Writes bytes of a sheet from byte `at` on, where they fit.
+/// Writes bytes into a sheet from byte `at` on, if they fit.
 pub(crate) fn write_sheet(sheet: &mut Sheet, at: u64, bytes: &[u8], out: &mut Text) {
     if write_at(sheet, at, bytes) {
         tell_sheet(out, sheet);

@@ -12,11 +12,11 @@ use rb_lend::Lent;
 use rb_tape::{Event, Feed, Item, Record, Tape, TapeFault, TapeKind, TapeWriter, count_records};
 use std::alloc::Global;
 
-// How long the pieces are in which a tape is fed.
+// The lengths of the pieces in which a tape is fed.
 const PIECES: [usize; 5] = [1, 3, 7, 64, 4096];
 
-/// What a tape gives as a whole: its records, what is wrong behind them, and how many records are counted. Where it gives something else in
-/// pieces of some length, that too.
+/// Appends the contents of a tape that is read as a whole: its records, what is wrong after them, and the number of
+/// records. Also appends the contents read in pieces of some length, if they differ.
 pub(crate) fn tell_tape(alloc: Global, bytes: &[u8], size: u64, start: u64, out: &mut Text) {
     match Tape::new(bytes, size, start) {
         Ok(tape) => tell_whole(tape, out),
@@ -34,7 +34,7 @@ pub(crate) fn tell_tape(alloc: Global, bytes: &[u8], size: u64, start: u64, out:
     }
 }
 
-// What a tape gives in pieces of this length.
+// Returns the contents of a tape that is read in pieces of this length.
 fn told_in_pieces(alloc: Global, bytes: &[u8], length: usize, size: u64, start: u64) -> Text
     requires { 0 < length }
 {
@@ -56,7 +56,7 @@ fn tell_whole(tape: Tape<'_>, out: &mut Text) {
     }
 }
 
-// The same of a tape that is fed in pieces.
+// Appends the contents of a tape that is fed in pieces.
 fn tell_pieces(feed: Feed, bytes: &[u8], length: usize, out: &mut Text)
     requires { 0 < length }
 {
@@ -74,7 +74,7 @@ fn tell_pieces(feed: Feed, bytes: &[u8], length: usize, out: &mut Text)
     out.field("records", records);
 }
 
-// Up to so many records that are there by now; how many they are.
+// Appends up to `most` records that are available, and returns how many there were.
 fn tell_read(feed: &mut Feed, most: usize, out: &mut Text) -> u64 {
     for count in 0..most {
         match feed.next() {
@@ -112,7 +112,7 @@ fn tell_fault(fault: TapeFault, out: &mut Text) {
     out.field("at", fault.offset);
 }
 
-/// The tape of records that were taken of a ring of `size` bytes whose positions begin at `start`.
+/// Appends the tape of records that were taken from a ring of `size` bytes whose positions start at `start`.
 pub(crate) fn tell_written(alloc: Global, size: u64, start: u64, taken: &[Taken], out: &mut Text) {
     if !is_size(size) || !is_start(start) {
         return out.word("fault: no ring");
@@ -132,7 +132,7 @@ pub(crate) fn tell_written(alloc: Global, size: u64, start: u64, taken: &[Taken]
     out.bytes(tape.into_writer().as_slice());
 }
 
-// The record that was taken.
+// Returns the record that was taken.
 fn item_of(taken: &Taken) -> Option<Item<'_>> {
     match taken {
         Taken::Event(pos, worker, serial, sheet) => Some(Item::Event(Event {
@@ -156,7 +156,7 @@ fn stands(item: &Item<'_>, size: u64, position: u64) -> bool
     }
 }
 
-// Whether a record of this position and length fits.
+// Whether a record with this position and length fits.
 fn fits(pos: u64, len: u64, size: u64, position: u64) -> bool
     ensures here { IsTrue result → pos ≡ position }
     ensures has_header { IsTrue result → len < 2 ^ 30 }

@@ -1,8 +1,9 @@
-//! Text that is gathered piece by piece.
+//! Text that is assembled piece by piece.
 
 use std::alloc::Global;
 
-/// Text that is gathered without an early exit. A piece for which there is no memory is left out, and the text is incomplete from then on.
+/// Text that is assembled without early exits. A piece that cannot be allocated is omitted, and the text is incomplete
+/// from then on.
 #[derive(Drop)]
 pub(crate) struct Text {
     text: String,
@@ -10,7 +11,7 @@ pub(crate) struct Text {
 }
 
 impl Text {
-    /// No text.
+    /// An empty text.
     pub(crate) fn new(alloc: Global) -> Text {
         Text {
             text: String::new(alloc),
@@ -18,48 +19,49 @@ impl Text {
         }
     }
 
-    /// What was gathered.
+    /// Returns the text.
     pub(crate) fn as_str(&self) -> &str {
         self.text.as_str()
     }
 
-    /// Whether no piece was left out since `new`.
+    /// Whether no piece was omitted since `new`.
     pub(crate) fn is_complete(&self) -> bool {
         self.complete
     }
 
-    /// Adds what another text gathered; the text is incomplete where that one is.
+    /// Appends another text. The text becomes incomplete if that one is.
     pub(crate) fn add(&mut self, other: &Text) {
         self.push(other.as_str());
         self.complete = self.complete && other.complete;
     }
 
-    /// Adds a piece.
+    /// Appends a piece.
     pub(crate) fn push(&mut self, piece: &str) {
         if self.text.push_str(piece).is_err() {
             self.complete = false;
         }
     }
 
-    /// Adds a space and a word.
+    /// Appends a space and a word.
     pub(crate) fn word(&mut self, word: &str) {
         self.push(" ");
         self.push(word);
     }
 
-    /// Adds a space and a number.
+    /// Appends a space and a number.
     pub(crate) fn number(&mut self, number: u64) {
         self.push(" ");
         self.digits(number);
     }
 
-    /// Adds a space, a name, a space and a number.
+    /// Appends a space, a name, a space and a number.
     pub(crate) fn field(&mut self, name: &str, number: u64) {
         self.word(name);
         self.number(number);
     }
 
-    /// Adds bytes in hex, as ` 2a*8 00 ff`: each run of equal bytes once, with its length where that is not 1; or ` none`.
+    /// Appends bytes in hex, as ` 2a*8 00 ff`: each run of equal bytes once, with its length unless that is 1; or `
+    /// none`.
     pub(crate) fn bytes(&mut self, bytes: &[u8]) {
         if bytes.is_empty() {
             self.word("none");
@@ -69,13 +71,13 @@ impl Text {
         }
     }
 
-    /// Adds the word `bytes`, and bytes in hex.
+    /// Appends the word `bytes`, and bytes in hex.
     pub(crate) fn contents(&mut self, bytes: &[u8]) {
         self.word("bytes");
         self.bytes(bytes);
     }
 
-    // Adds a run of equal bytes.
+    // Appends a run of equal bytes.
     fn run(&mut self, run: &[u8]) {
         let byte = run.first().copied().unwrap_or(0);
         if write!(self.text, " {byte:02x}").is_err() {

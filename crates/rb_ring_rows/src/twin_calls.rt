@@ -13,15 +13,15 @@ use rb_history::NoGrant;
 use rb_lend::Sheet;
 use std::alloc::Global;
 
-/// What a ring over chapters answered to a reservation.
+/// The answer of a ring over chapters to a reserve.
 pub(crate) enum ChapterAnswer {
     /// The record that it granted, or none.
     Answered(Option<Reservation>),
-    /// The chapter has no room, or the worker no free hand: the list knows neither.
+    /// The chapter has no room, or the worker has no free hand. The list has neither chapters nor hands.
     Unknown,
 }
 
-/// Reserves a record of `n` bytes in this sheet, into the worker's lowest free hand.
+/// Reserves a record of `n` bytes in this sheet, in the worker's lowest free hand.
 pub(crate) fn reserve_in_chapter(
     ring: &mut RingState,
     worker: u32,
@@ -46,7 +46,7 @@ pub(crate) fn reserve_in_chapter(
     }
 }
 
-/// Submits a record or gives it up; the reservation comes back where it is not out at the ring, which is not asked then.
+/// Submits or discards a record. If it is not out at the ring, makes no call and returns the reservation.
 pub(crate) fn end_in_chapter(
     ring: &mut RingState,
     record: Reservation,
@@ -67,7 +67,7 @@ pub(crate) fn end_in_chapter(
     None
 }
 
-/// Submits a record to the list or gives it up, which is asked whether or not it has the record.
+/// Submits or discards a record in the list, whether or not the list has the record.
 pub(crate) fn end_in_list(
     list: &mut PlainRing,
     record: PlainReservation,
@@ -84,7 +84,7 @@ pub(crate) fn end_in_list(
     tell_end(answer, out)
 }
 
-/// Outputs a sheet. Whether the list is asked too: not where the chapter has no room.
+/// Outputs a sheet. Returns whether the list makes the call too: not if the chapter has no room.
 pub(crate) fn output_in_chapter(
     ring: &mut RingState,
     worker: u32,
@@ -147,7 +147,7 @@ pub(crate) fn reserve_in_list(
     }
 }
 
-/// Tells what both rings answered to their opening.
+/// Appends the results of opening both rings.
 pub(crate) fn tell_opened(word: &str, list_word: &str, out: &mut Text) {
     out.word(word);
     if word != list_word && word != "refused chapter" {
@@ -156,7 +156,7 @@ pub(crate) fn tell_opened(word: &str, list_word: &str, out: &mut Text) {
     }
 }
 
-/// A ring over chapters, or why it is refused.
+/// Returns a ring over chapters, or why it is refused.
 pub(crate) fn opened_ring(
     alloc: Global,
     size: u64,
@@ -170,7 +170,7 @@ pub(crate) fn opened_ring(
     }
 }
 
-/// A ring over a list, or why it is refused.
+/// Returns a ring over a list, or why it is refused.
 pub(crate) fn opened_list(
     alloc: Global,
     size: u64,

@@ -1,4 +1,4 @@
-//! A ring that keeps a chapter of its history, and beside it the twin that keeps all of it in a list. Each call is made on both.
+//! A ring that keeps a chapter of its history, and its twin that keeps all of it in a list. Each call is made on both.
 
 ghost use Rattle.std.specs.Prelude.{◌≡◌, ◌+◌, ◌<◌, ◌≤◌, IfSome, IsTrue, vec_capacity, vec_len};
 
@@ -29,14 +29,14 @@ pub(crate) struct TwinRings {
     workers: u32,
     ring: RingState,
     list: PlainRing,
-    // How many entries the chapters have that were handed out.
+    // The number of entries of the chapters that were handed out.
     handed_out: u64,
-    // All that was taken, in order.
+    // Everything that was taken, in order.
     taken: Vec<Taken>,
     ghost list_workers: { list.setup.workers ≡ workers },
 }
 
-/// The reservations of one record, of both rings.
+/// The reservations of one record, at both rings.
 #[derive(Drop)]
 pub(crate) struct TwinRecord {
     ring: Reservation,
@@ -44,7 +44,7 @@ pub(crate) struct TwinRecord {
 }
 
 impl TwinRecord {
-    /// Writes bytes from byte `at` on, where they fit.
+    /// Writes bytes from byte `at` on, if they fit.
     pub(crate) fn write(&mut self, at: u64, bytes: &[u8], out: &mut Text) {
         if write_at(&mut self.ring, at, bytes) && write_at(&mut self.list, at, bytes) {
             tell_contents(&self.ring, out);
@@ -55,7 +55,8 @@ impl TwinRecord {
 }
 
 impl TwinRings {
-    /// Opens both rings, unless they are refused. The list has no chapters, so it is not asked where the chapters' room is refused.
+    /// Opens both rings, unless they are refused. The list has no chapters, so it is not opened if the chapters' room
+    /// is refused.
     pub(crate) fn open(alloc: Global, setup: OpeningNumbers, out: &mut Text) -> Option<TwinRings> {
         let OpeningNumbers {
             size,
@@ -80,8 +81,8 @@ impl TwinRings {
         })
     }
 
-    /// Reserves a record of `n` bytes into the worker's lowest free hand, in a sheet full of 255. The list is not asked where the chapter has
-    /// no room, and neither ring where no hand is free.
+    /// Reserves a record of `n` bytes in the worker's lowest free hand, in a sheet full of 255. The list is not called
+    /// if the chapter has no room, and neither ring is if no hand is free.
     pub(crate) fn reserve(
         &mut self,
         alloc: Global,
@@ -108,8 +109,9 @@ impl TwinRings {
         }
     }
 
-    /// Submits a record to both rings, or gives it up. The reservations come back where they are stray: out in no hand of the ring, which is not
-    /// called then, and not busy in the list, which is asked unless it has a busy record of these numbers.
+    /// Submits or discards a record at both rings. The reservations come back if they are stray: in no hand of the
+    /// ring, which is then not called, and not busy in the list, which is called unless it has a busy record with these
+    /// numbers.
     pub(crate) fn end(
         &mut self,
         alloc: Global,
@@ -129,7 +131,7 @@ impl TwinRings {
         twin_record(ring, list)
     }
 
-    /// Outputs these bytes. The list is not asked where the chapter has no room.
+    /// Outputs these bytes. The list is not called if the chapter has no room.
     pub(crate) fn output(
         &mut self,
         alloc: Global,
@@ -179,7 +181,8 @@ impl TwinRings {
         self.compare(out, &told);
     }
 
-    /// Has the ring over chapters go on in an empty chapter; the one that comes back is the chapter that was handed out, or the empty one.
+    /// Makes the ring over chapters continue in an empty chapter. Returns the chapter that was handed out, or the empty
+    /// one.
     pub(crate) fn hand_out(&mut self, empty: Chapter, out: &mut Text) -> Chapter {
         match self.ring.hand_out(empty) {
             Ok(chapter) => {
@@ -194,7 +197,7 @@ impl TwinRings {
         }
     }
 
-    /// What a query answers.
+    /// Appends the answer of a query.
     pub(crate) fn query(&self, what: u64, out: &mut Text) {
         out.number(self.ring.query(what));
         if self.ring.query(what) != self.list.query(what) {
@@ -202,22 +205,22 @@ impl TwinRings {
         }
     }
 
-    /// The six counts.
+    /// Appends the six counts.
     pub(crate) fn counts(&self, out: &mut Text) {
         tell_counts(out, self.ring.counts());
     }
 
-    /// The tape of all that was taken.
+    /// Appends the tape of everything that was taken.
     pub(crate) fn written(&self, alloc: Global, out: &mut Text) {
         tell_written(alloc, self.size, self.start, self.taken.as_slice(), out);
     }
 
-    /// The chapter that the ring keeps.
+    /// Returns the chapter that the ring keeps.
     pub(crate) fn chapter(&self) -> &Chapter {
         self.ring.chapter()
     }
 
-    /// The history of these chapters and of the ring's, or why they are not bound.
+    /// Appends the history of these chapters followed by the ring's, or why they do not bind.
     pub(crate) fn bind(&self, alloc: Global, chapters: &[Chapter], out: &mut Text) {
         match bind_chapters(alloc, chapters, self.ring.chapter()) {
             Ok(history) => {
@@ -252,7 +255,7 @@ impl TwinRings {
         worker < self.workers && worker < self.ring.chapter().opening().numbers().workers
     }
 
-    // Tells what the list answered where it is something else, and where both rings do not stand alike after the call.
+    // Appends the list's answer if it differs, and the difference between both rings' states after the call, if any.
     fn compare(&self, out: &mut Text, told: &Text) {
         if out.as_str() != told.as_str() {
             out.word("differs");
@@ -281,7 +284,7 @@ impl TwinRings {
     }
 }
 
-// The reservations of a record, where both rings have it.
+// Returns the reservations of a record, if both rings granted it.
 fn twin_record(ring: Option<Reservation>, list: Option<PlainReservation>) -> Option<TwinRecord> {
     Some(TwinRecord {
         ring: ring?,
@@ -289,7 +292,7 @@ fn twin_record(ring: Option<Reservation>, list: Option<PlainReservation>) -> Opt
     })
 }
 
-// Room for `n` records, twice.
+// Returns two lists with room for `n` records each.
 fn two_rooms(alloc: Global, n: usize) -> Option<(Vec<Taken>, Vec<Taken>)>
     ensures first { IfSome result (λ rooms. vec_len rooms.0 + n ≤ vec_capacity rooms.0) }
     ensures second { IfSome result (λ rooms. vec_len rooms.1 + n ≤ vec_capacity rooms.1) }

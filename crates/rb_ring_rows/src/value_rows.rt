@@ -8,7 +8,7 @@ use crate::text::Text;
 use rb_history::{Header, check_setup, is_size, is_start, is_worker_count, notice_for, span};
 use std::alloc::Global;
 
-/// What a row answers that needs no ring.
+/// Answers a row that needs no ring.
 pub(crate) fn answer(alloc: Global, row: &RingRow<'_>, out: &mut Text) {
     let (first, second, third) = (row.number(0), row.number(1), row.number(2));
     match (row.verb, row.numbers.len()) {
@@ -22,7 +22,7 @@ pub(crate) fn answer(alloc: Global, row: &RingRow<'_>, out: &mut Text) {
     }
 }
 
-// Whether each number may be a ring's, and whether they may together.
+// Appends whether each number is valid for a ring, and whether all are together.
 fn tell_setup(size: u64, start: u64, workers: u32, out: &mut Text) {
     tell_whether(is_size(size), "size", out);
     tell_whether(is_start(start), "start", out);
@@ -40,7 +40,7 @@ fn tell_whether(is_right: bool, word: &str, out: &mut Text) {
     out.word(word);
 }
 
-// The bytes of a header.
+// Appends the bytes of a header.
 fn encode(row: &RingRow<'_>, out: &mut Text) {
     let header = Header {
         len: narrow(row.number(0)),
@@ -54,7 +54,7 @@ fn encode(row: &RingRow<'_>, out: &mut Text) {
     out.bytes(&header.to_bytes());
 }
 
-// The header that eight bytes are.
+// Appends the header that eight bytes encode.
 fn decode(bytes: &[u8], out: &mut Text) {
     let Some(bytes) = bytes.first_chunk::<8>() else {
         return out.word(WRONG_WORDS);

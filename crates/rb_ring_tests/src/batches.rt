@@ -1,4 +1,4 @@
-//! Tapes of a writer that fails in the midst of a record.
+//! Tapes of a writer that fails in the middle of a record.
 
 ghost use Rattle.std.specs.Prelude.{◌≡◌};
 ghost use Rattle.rb_history.specs.TapeBytes.{AreItemsFrom};
@@ -15,7 +15,7 @@ use std::io::{Error, ErrorKind, Write};
 use std::process::Abort;
 use std::sync::Wait;
 
-// A writer in memory that takes one byte a write, and fails once, at this write. Writes count from 1.
+// An in-memory writer that accepts one byte per write, and fails once, at this write. Writes count from 1.
 #[derive(Drop)]
 struct OneByteWriter {
     taken: Vec<u8>,
@@ -58,10 +58,10 @@ impl Write for OneByteWriter {
     }
 }
 
-// How much of the last record a tape sent, where it stands, and what its writer took.
+// How much of the last record a tape sent, the tape's position, and the bytes that its writer accepted.
 type Sent = (u64, u64, Vec<u8>);
 
-// The tape's numbers and bytes.
+// Returns the tape's numbers and bytes.
 fn sent_by(tape: TapeWriter<OneByteWriter>) -> Sent {
     (tape.sent(), tape.position(), tape.into_writer().taken)
 }
@@ -69,7 +69,7 @@ fn sent_by(tape: TapeWriter<OneByteWriter>) -> Sent {
 // The tape of one record of eight bytes.
 const RECORD: [u8; 16] = [8, 0, 0, 0, 0, 0, 0, 0, 0x2a, 0, 0, 0, 0, 0, 0, 0];
 
-// Puts the record by this writer, and resumes it: both answers, and the numbers between them; then what was sent.
+// Puts the record with this writer, and resumes it. Returns both answers, the numbers between them, and what was sent.
 fn resumed(
     writer: OneByteWriter,
 ) -> (
@@ -118,7 +118,7 @@ const TWO_RECORDS: [u8; 32] = [
     0,
 ];
 
-// Writes a batch as a tape by a writer that fails once at most, and goes on behind the record that is unfinished then.
+// Writes a batch as a tape with a writer that fails at most once, and resumes after the record that is then unfinished.
 fn written(rt: &impl Abort, batch: &Batch, writer: OneByteWriter) -> TapeWriter<OneByteWriter>
     requires { AreItemsFrom 4096 0 (tape_items batch.now.taken) }
 {
@@ -135,7 +135,7 @@ fn written(rt: &impl Abort, batch: &Batch, writer: OneByteWriter) -> TapeWriter<
     tape
 }
 
-// A batch of the two records, taken of a ring.
+// Returns a batch of the two records, taken from a ring.
 fn two_records<R: Wait + Abort>(rt: &R, alloc: Global) -> Batch
     ensures { AreItemsFrom 4096 0 (tape_items result.taken) }
 {

@@ -1,4 +1,4 @@
-//! What a caller may conclude of a ring that is closed.
+//! What a caller may conclude from a closed ring.
 
 ghost use Rattle.std.specs.Prelude.{◌≡◌, All};
 ghost use Rattle.rb_history.specs.Counting.{counts_of};
@@ -13,7 +13,7 @@ use std::alloc::Global;
 use std::process::Abort;
 use std::sync::Wait;
 
-/// Closes a ring with all its seats. Where these have settled all, no record of the whole history is busy.
+/// Closes a ring with all its seats. If all of them have settled, no record of the whole history is busy.
 pub(super) fn closed<R: Wait + Abort>(
     rt: &R,
     ring: SharedRing,
@@ -31,12 +31,12 @@ pub(super) fn closed<R: Wait + Abort>(
     }
 }
 
-// How many records a seat made, submitted and discarded.
+// Returns how many records a seat made, submitted and discarded.
 fn counts_of_seat(seat: &Seat) -> (u64, u64, u64) {
     (seat.made(), seat.submitted(), seat.discarded())
 }
 
-// Has the first seat output a record, and the second submit one behind one that it discards.
+// Lets the first seat output a record, and the second submit one after one that it discards.
 fn settle<R: Wait + Abort>(
     rt: &R,
     alloc: Global,

@@ -85,7 +85,7 @@ fn example_of_the_plain_ring(rt: HostRuntime) {
     );
 }
 
-// The number of the chapter that the ring hands out, and how many entries it has.
+// Returns the number of the chapter that the ring hands out, and its number of entries.
 fn handed_out(rt: &impl Abort, alloc: Global, ring: &mut RingState) -> (u64, u32) {
     let empty = Chapter::new(alloc, 8, 1).expect(rt, "memory");
     let chapter = ring.hand_out(empty).ok().expect(rt, "a chapter");
@@ -108,7 +108,7 @@ fn example_of_rb_chapter_ring(rt: HostRuntime) {
     );
 }
 
-// The chapter that the ring hands out, and whether the next record is the first of worker 0.
+// Returns the chapter that the ring hands out, and whether the next record is the first of worker 0.
 fn chapter_and_event<R: Wait + Abort>(
     rt: &R,
     alloc: Global,
@@ -129,7 +129,7 @@ fn chapter_and_event<R: Wait + Abort>(
     }
 }
 
-// How many chapters a closed ring's history was bound of, and how many entries it has.
+// Returns how many chapters a closed ring's history was bound from, and its number of entries.
 fn bound(rt: &impl Abort, alloc: Global, closing: Closing, chapter: Chapter) -> (usize, usize) {
     let chapters = vec![in alloc; chapter].expect(rt, "memory");
     match closing.bind(alloc, chapters) {

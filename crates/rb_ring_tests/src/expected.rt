@@ -1,4 +1,4 @@
-//! What the tests make and compare, each in one call that ends the test where it fails.
+//! Constructors and comparisons of the tests, each in one call that ends the test on failure.
 
 ghost use Rattle.std.specs.Prelude.{◌≡◌, length};
 
@@ -7,7 +7,7 @@ use std::alloc::Global;
 use std::fmt::Debug;
 use std::process::Abort;
 
-/// A sheet of `n` bytes.
+/// Returns a sheet of `n` bytes.
 pub(crate) fn sheet(rt: &impl Abort, alloc: Global, n: u32) -> Sheet
     ensures { length result ≡ n }
 {
@@ -17,12 +17,12 @@ pub(crate) fn sheet(rt: &impl Abort, alloc: Global, n: u32) -> Sheet
     }
 }
 
-/// Ends the test where the two differ, and prints both.
+/// Ends the test if the two differ, and prints both.
 pub(crate) fn same<T: PartialEq + Debug>(rt: &impl Abort, found: &T, wanted: &T) {
     assert_eq!(rt; *found, *wanted);
 }
 
-/// Ends the test where the two differ, and prints both and the row of the table that they are of.
+/// Ends the test if the two differ, and prints both and their row of the table.
 pub(crate) fn same_of<T: PartialEq + Debug>(
     rt: &impl Abort,
     found: &T,
@@ -32,7 +32,7 @@ pub(crate) fn same_of<T: PartialEq + Debug>(
     assert_eq!(rt; *found, *wanted, "of {row:?}");
 }
 
-/// Ends the test where the bytes are others.
+/// Ends the test if the bytes differ.
 pub(crate) fn same_bytes(rt: &impl Abort, found: &[u8], wanted: &[u8]) {
     same(rt, &found, &wanted);
 }

@@ -12,7 +12,7 @@ use rb_lend::Lent;
 use std::alloc::Global;
 use std::process::Abort;
 
-// Entries, and whether each is a grant, a refusal, a discarding, and a grant of worker 2.
+// Entries, and whether each is a grant, a refusal, a discard, and a grant to worker 2.
 const ENTRIES: [(Entry, (bool, bool, bool, bool)); 6] = [
     (Entry::Res(2, 0, 8, 0), (true, false, false, true)),
     (Entry::Res(1, 2, 2, 2), (true, false, false, false)),
@@ -37,7 +37,7 @@ fn entries_are_told_apart(rt: HostRuntime) {
     same(&rt, &POSITION_LIMIT, &4_611_686_018_427_387_904);
 }
 
-// A reservation of `n` bytes.
+// Returns a reservation of `n` bytes.
 fn reservation(
     rt: &impl Abort,
     alloc: Global,
@@ -51,7 +51,7 @@ fn reservation(
     PlainReservation::new(pos, worker, serial, sheet(rt, alloc, n))
 }
 
-// A record of four bytes at position 48, the sixth of worker 3.
+// Returns a record of four bytes at position 48, the sixth of worker 3.
 fn stored(state: RecordState) -> StoredRecord {
     StoredRecord {
         pos: 48,
@@ -62,7 +62,7 @@ fn stored(state: RecordState) -> StoredRecord {
     }
 }
 
-// Whether the record of `stored`, with this state, is reserved under these numbers.
+// Whether the record of `stored`, in this state, is reserved under these numbers.
 fn is_busy_under(
     rt: &impl Abort,
     alloc: Global,
@@ -98,7 +98,7 @@ fn state_of(record: &StoredRecord) -> (bool, bool) {
     (is_reserved(record), is_submitted(record))
 }
 
-// Ends the test where this is no event of the record of `stored`, with four sixes.
+// Ends the test unless this is an event of the record of `stored`, with four sixes.
 fn is_event(rt: &impl Abort, taken: Taken) {
     match taken {
         Taken::Event(48, 3, 5, sheet) => same_bytes(rt, sheet.bytes(), &[6, 6, 6, 6]),

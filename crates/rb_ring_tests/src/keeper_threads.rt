@@ -1,4 +1,5 @@
-//! Real threads: four producers, and a consumer that takes batches and turns chapters. All loops end once the records are there.
+//! Real threads: four producers, and a consumer that takes batches and checks chapters. All loops end once the records
+//! are there.
 
 ghost use Rattle.std.specs.Prelude.{◌≡◌};
 ghost use Rattle.rb_shared_ring.specs.SharedSeats.{IsSameChapterConsumer};
@@ -21,8 +22,9 @@ const RECORDS: u32 = 2_500;
 
 const BATCH: usize = 64;
 
-// What a consumer has: its batch and its keeper; for each worker how many events came; how many chapters were lent; and how many events or
-// chapters were not the next, or events had other bytes than the worker sent.
+// The consumer's state: its batch and its keeper; for each worker the number of events; the number of chapters that
+// were lent; and the number of events or chapters that were out of order, or of events with other bytes than the worker
+// sent.
 #[derive(Drop)]
 struct Desk {
     batch: Batch,
@@ -42,7 +44,7 @@ fn count_event(events: &mut [u64; 4], wrong: &mut u64, event: &Event<'_>) {
     events[w] = events[w].saturating_add(1);
 }
 
-// Turns the ring's chapter where it is due.
+// Hands out the ring's chapter if it is due.
 fn turn<R: Wait>(rt: &R, ring: &SharedRing, consumer: &mut ConsumerSeat, desk: &mut Desk)
     requires { consumer.old.ring ≡ ring.now.ring }
     ensures { IsSameChapterConsumer consumer.old consumer.new }
@@ -59,7 +61,7 @@ fn turn<R: Wait>(rt: &R, ring: &SharedRing, consumer: &mut ConsumerSeat, desk: &
 }
 
 impl Consumer for Desk {
-    // Turns the ring's chapter, and takes a batch.
+    // Hands out the ring's chapter if it is due, and takes a batch.
     fn look<R: Wait>(&mut self, rt: &R, ring: &SharedRing, seat: &mut ConsumerSeat) -> Found {
         turn(rt, ring, seat, self);
         let count = self.batch.fill(rt, ring, seat).unwrap_or(0);
@@ -85,7 +87,7 @@ fn new_desk(rt: &impl Abort, alloc: Global) -> Desk {
     }
 }
 
-// Has four producers and the consumer run in threads: the closed ring.
+// Runs four producers and the consumer in threads. Returns the closed ring.
 fn ran<R: Threads + Wait + Sync + Abort>(rt: &R, alloc: Global, desk: &mut Desk) -> Closing {
     let mut open = OpenRing::open(rt, alloc, 3, 4096, WORKERS, 64).expect(rt, "a ring");
     let outputs = Outputs {

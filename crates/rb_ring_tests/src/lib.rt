@@ -1,5 +1,5 @@
-//! Tests of the ring's crates, by their public calls alone: the lines of their module docs, and what is no row of `rb_ring_rows`: values that no ring
-//! makes, devices that fail, what a caller may conclude, and threads.
+//! Tests of the ring's crates through their public calls: the examples of their module docs, and what is not a row of
+//! `rb_ring_rows`: values that no ring creates, devices that fail, conclusions of a caller, and threads.
 #![tactic(auto)]
 
 #[cfg(test)]

@@ -1,4 +1,4 @@
-//! The parts of memory that a program reaches.
+//! The memory regions that a program reaches.
 
 ghost use Rattle.std.specs.Prelude.{◌≡◌, ◌≤◌, ℕ, List, IsSome, take, length, if◌then◌else◌};
 ghost use Rattle.rb_lend.specs.Ranges.{written_at};
@@ -10,7 +10,7 @@ use rb_lend::{Lent, Sheet};
 use std::alloc::Global;
 use std::process::Abort;
 
-/// Clears a range where it may be written. A caller learns from the result what became of the parts.
+/// Clears a range if it may be written. The result tells a caller what happened to the parts.
 fn clear_if<C: Context, R: Lent>(
     parts: &mut Parts<C, R>,
     part: Part,
@@ -29,7 +29,7 @@ fn clear_if<C: Context, R: Lent>(
     }
 }
 
-/// Parts with a record of `n` bytes in the first slot.
+/// Returns parts with a record of `n` bytes in the first slot.
 fn with_record<'a>(
     rt: &impl Abort,
     alloc: Global,
@@ -41,7 +41,7 @@ fn with_record<'a>(
     parts
 }
 
-/// Holds a record of `n` bytes, for which this slot has to be the first free one.
+/// Holds a record of `n` bytes, for which this slot must be the first free one.
 fn hold(rt: &impl Abort, alloc: Global, parts: &mut Parts<&[u8], Sheet>, n: u32, free: Slot) {
     match parts.hold(sheet(rt, alloc, n)) {
         Ok(slot) => same(rt, &slot, &free),
@@ -49,12 +49,12 @@ fn hold(rt: &impl Abort, alloc: Global, parts: &mut Parts<&[u8], Sheet>, n: u32,
     }
 }
 
-// Ends the test, as a range that begins here is outside.
+// Ends the test, because a range that begins here is out of bounds.
 fn outside_at(rt: &impl Abort, off: usize) {
     panic!(rt; "outside at {off}");
 }
 
-/// Ends the test where a range of a part is outside, or holds other bytes.
+/// Ends the test if a range of a part is out of bounds, or has other bytes.
 fn reads(rt: &impl Abort, parts: &Parts<&[u8], Sheet>, part: Part, off: usize, bytes: &[u8]) {
     match parts.read(part, off, bytes.len()) {
         Ok(found) => same_bytes(rt, found, bytes),
@@ -62,7 +62,7 @@ fn reads(rt: &impl Abort, parts: &Parts<&[u8], Sheet>, part: Part, off: usize, b
     }
 }
 
-/// Ends the test where a range of a part is outside; fills it otherwise.
+/// Ends the test if a range of a part is out of bounds; otherwise fills it.
 fn fill<C: Context, R: Lent>(
     rt: &impl Abort,
     parts: &mut Parts<C, R>,
@@ -167,7 +167,7 @@ fn a_write_changes_its_range_alone(rt: HostRuntime) {
     reads(&rt, &parts, Part::Ctx, 0, &[5, 6, 7]);
 }
 
-/// The length of the record that the parts hand back in place of a fifth one.
+/// Returns the length of the record that the parts hand back in place of a fifth one.
 fn handed_back(rt: &impl Abort, alloc: Global, parts: &mut Parts<&[u8], Sheet>, n: u32) -> u32 {
     match parts.hold(sheet(rt, alloc, n)) {
         Ok(_) => rt.panic("a fifth was held"),
@@ -175,7 +175,7 @@ fn handed_back(rt: &impl Abort, alloc: Global, parts: &mut Parts<&[u8], Sheet>, 
     }
 }
 
-// The length of the record that a slot gives away, if it has one.
+// Returns the length of the record that a slot releases, if it has one.
 fn given_len(parts: &mut Parts<&[u8], Sheet>, slot: Slot) -> Option<u32> {
     match parts.give(slot) {
         Some(given) => Some(given.len()),

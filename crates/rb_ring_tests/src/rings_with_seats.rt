@@ -1,4 +1,4 @@
-//! What the tests share: rings with a seat or two, and calls that end the test where they are not answered as they have to be.
+//! Shared by the tests: rings with one or two seats, and calls that end the test unless they get the right answer.
 
 ghost use Rattle.std.specs.Prelude.{◌≡◌, length};
 ghost use Rattle.rb_ledger.specs.Seats.{IsSameSeat, fresh_seats, fresh_book};
@@ -11,10 +11,10 @@ use std::alloc::Global;
 use std::process::Abort;
 use std::sync::Wait;
 
-/// The room of a chapter that has all entries of a test.
+/// A chapter room that fits all entries of a test.
 pub(super) const ROOM: u32 = 65_536;
 
-/// A ring of 4,096 bytes from 0, with one worker, whose chapters have this room.
+/// Returns a ring of 4,096 bytes that starts at 0, with one worker and chapters of this room.
 pub(super) fn one_seat<R: Wait + Abort>(
     rt: &R,
     alloc: Global,
@@ -34,7 +34,7 @@ pub(super) fn one_seat<R: Wait + Abort>(
     }
 }
 
-/// A ring of 4,096 bytes from 0, with two workers and room for all entries of a test.
+/// Returns a ring of 4,096 bytes that starts at 0, with two workers and room for all entries of a test.
 pub(super) fn two_seats<R: Wait + Abort>(
     rt: &R,
     alloc: Global,

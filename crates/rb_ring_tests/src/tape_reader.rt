@@ -35,12 +35,12 @@ fn example_of_a_reader_of_tapes(rt: HostRuntime) {
     );
 }
 
-// Whether the feed gives a record.
+// Whether the feed returns a record.
 fn is_record(feed: &mut Feed) -> bool {
     matches!(feed.next(), Some(Ok(_)))
 }
 
-// The fault that the feed gives next, if it gives one.
+// Returns the next fault of the feed, if there is one.
 fn fault_of(feed: &mut Feed) -> Option<TapeFault> {
     match feed.next() {
         Some(Err(fault)) => Some(fault),

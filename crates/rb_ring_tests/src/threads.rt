@@ -1,5 +1,5 @@
-//! Real threads: four producers and a consumer, which takes records one by one and has a chapter handed out before it is full. All loops end
-//! once the records are there.
+//! Real threads: four producers and a consumer, which takes records one by one and has a chapter handed out before it
+//! is full. All loops end once the records are there.
 
 ghost use Rattle.std.specs.Prelude.{◌≡◌};
 ghost use Rattle.rb_shared_ring.specs.SharedSeats.{IsSameChapterConsumer};
@@ -20,11 +20,11 @@ const WORKERS: u32 = 4;
 
 const RECORDS: u32 = 10_000;
 
-// How many entries a chapter has when it is handed out.
+// The number of entries at which a chapter is handed out.
 const HANDED_OUT_AT: u32 = 50_000;
 
-// What a consumer adds up: for each worker the events and the sum of their first bytes, how often a serial was not the next, and how often
-// the bytes were not those that the worker sent with that serial.
+// The consumer's totals: for each worker the events and the sum of their first bytes, how often a serial was out of
+// order, and how often the bytes were not those that the worker sent with that serial.
 #[derive(Drop)]
 struct Sums {
     alloc: Global,
@@ -47,7 +47,7 @@ fn add(sums: &mut Sums, worker: u32, serial: u64, bytes: &[u8]) {
     sums.bytes[w] = sums.bytes[w].saturating_add(u64::from(byte));
 }
 
-// Has the ring's chapter handed out where it has so many entries.
+// Hands out the ring's chapter if it has this many entries.
 fn hand_out<R: Wait>(rt: &R, alloc: Global, ring: &SharedRing, seat: &mut ConsumerSeat)
     requires { seat.old.ring ≡ ring.now.ring }
     ensures { IsSameChapterConsumer seat.old seat.new }
@@ -93,7 +93,8 @@ fn sends<T: Send>(_x: &T) -> bool {
     true
 }
 
-// What a consumer has taken and skipped, where it stands, and whether it was handed more than one chapter.
+// Returns the numbers of records that a consumer has taken and skipped, its position, and whether it received more than
+// one chapter.
 fn numbers_of(consumer: &ConsumerSeat) -> (u64, u64, u64, bool) {
     (
         consumer.consumed(),
@@ -103,7 +104,7 @@ fn numbers_of(consumer: &ConsumerSeat) -> (u64, u64, u64, bool) {
     )
 }
 
-/// What a closed ring counts: made, consumed, discarded, waiting and busy.
+/// Returns the counts of a closed ring: made, consumed, discarded, waiting and busy.
 pub(super) fn counts_of(closing: &Closing) -> (u64, u64, u64, u64, u64) {
     let counts = closing.counts();
     (
@@ -115,7 +116,7 @@ pub(super) fn counts_of(closing: &Closing) -> (u64, u64, u64, u64, u64) {
     )
 }
 
-/// Where a closed ring's producer and consumer stand, and which chapter is its last.
+/// Returns the producer and consumer positions of a closed ring, and the number of its last chapter.
 pub(super) fn places_of(closing: &Closing) -> (u64, u64, u64) {
     (
         closing.producer(),
@@ -124,7 +125,8 @@ pub(super) fn places_of(closing: &Closing) -> (u64, u64, u64) {
     )
 }
 
-// Has four producers and the consumer run in threads, and looks at their seats: the closed ring, and how many chapters were handed out.
+// Runs four producers and the consumer in threads, and checks their seats. Returns the closed ring, and how many
+// chapters were handed out.
 fn ran<R: Threads + Wait + Sync + Abort>(rt: &R, alloc: Global, sums: &mut Sums) -> (Closing, u64) {
     let mut open = OpenRing::open(rt, alloc, 3, 4096, WORKERS, ROOM).expect(rt, "a ring");
     let goes_between_threads = syncs(&open.ring) && sends(&open.seats) && sends(&open.consumer);

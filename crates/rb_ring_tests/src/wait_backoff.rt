@@ -1,4 +1,4 @@
-//! Waits.
+//! Waiting.
 
 use crate::expected::same;
 use rb_shared_ring::WaitBackoff;

@@ -10,7 +10,7 @@ use Rattle.rb_job_cost.proofs.Leaving.{calls_leave}
 use Rattle.rb_workers.specs.JobRuns.{JobRun, RunsInTurn}
 use Rattle.rb_run_cost.specs.RunCosts.{RunsCut, RunsCutHistories}
 
--- ---- a history is cut where its requests are
+-- ---- a history is cut at its requests
 
 record CutAt (w : ℕ) (h : List Entry) (xs ys : List Request) : Type 0 where
   front : List Entry
@@ -48,7 +48,7 @@ cut_at w (e ∷ h) (x ∷ xs) ys is = by_request (request_of w e) refl (cut_at w
 abbrev joined : {X : Type 0} → List (List X) → List X
 joined xss = flat_map (λ xs. xs) xss
 
--- the last part has all that is left
+-- the last part has all that remains
 cut_more : (w : ℕ) (left : List Request) (lefts : List (List Request)) (h : List Entry) → requests_of w h ≡ left ++ joined lefts
     → (parts : List (List Entry)) × (h ≡ joined parts) × AllZip (λ l entries. requests_of w entries ≡ l) (left ∷ lefts) parts
 cut_more w left [] h is = (h ∷ [], sym (append-nil h), (is ∙ append-nil left, tt))
@@ -81,7 +81,7 @@ runs_leave ring w (run ∷ runs) old new before (mid, ran, turns) got worker =
       each = (subst (λ calls. AreLeft ring (notes_of calls) one.left) ran.1 one.are_left, more.each);
     }
 
--- what is left by the runs is what stands in the parts
+-- what the runs left is what the parts contain
 zipped : (ring w : ℕ) (runs : List JobRun) (lefts : List (List Request)) (parts : List (List Entry)) → AllZip (λ run left. AreLeft ring (notes_of run.calls) left) runs lefts
     → AllZip (λ left entries. requests_of w entries ≡ left) lefts parts → AllZip (λ run entries. AreLeft ring (notes_of run.calls) (requests_of w entries)) runs parts
 zipped ring w [] [] [] first second = tt

@@ -1,2 +1,2 @@
-mod Refusals
+pub mod Refusals
 mod Cutting

@@ -49,7 +49,7 @@ one_of w (Sub p) = omega arith
 one_of w (Dis p) = omega arith
 one_of w (Take p) = omega arith
 
-fewer : (w : ℕ) (h : List Entry) → count_by (is_refusal_of w) h ≤ count_by is_refusal_entry h
+pub fewer : (w : ℕ) (h : List Entry) → count_by (is_refusal_of w) h ≤ count_by is_refusal_entry h
 fewer w [] = omega arith
 fewer w (e ∷ h) =
     let own : count_by (is_refusal_of w) (e ∷ h) ≡ cond (is_refusal_of w e) 1 0 + count_by (is_refusal_of w) h = sum_by-cons (λ x. cond (is_refusal_of w x) 1 0) e h in
@@ -60,8 +60,8 @@ fewer w (e ∷ h) =
 
 -- ---- one run
 
--- what a worker asks for in a part of a history is what its requests there ask for
-asked_is : (w : ℕ) (entries : List Entry) → asked_bytes w entries ≡ requested_bytes (requests_of w entries)
+-- what a worker requests in a part of a history is what its requests there request
+pub asked_is : (w : ℕ) (entries : List Entry) → asked_bytes w entries ≡ requested_bytes (requests_of w entries)
 asked_is w entries = sum_by-only (asked_span w) (request_of w) (λ (q : Request). span q.len) one_asks entries
   where
     by_test : (b granted : Bool) (n : ℕ) → cond b (span n) 0 ≡ opt_sum (λ (q : Request). span q.len) (cond b (Some (record { len = n; granted = granted })) None)
@@ -75,14 +75,14 @@ asked_is w entries = sum_by-only (asked_span w) (request_of w) (λ (q : Request)
     one_asks (Dis p) = refl
     one_asks (Take p) = refl
 
--- a worker without requests asks for nothing
+-- a worker without requests requests nothing
 idle_within : (most w : ℕ) (entries : List Entry) → requests_of w entries ≡ [] → asked_bytes w entries ≤ most
 idle_within most w entries none =
     let same : asked_bytes w entries ≡ requested_bytes (requests_of w entries) = asked_is w entries in
     let zero : requested_bytes (requests_of w entries) ≡ requested_bytes [] = ap requested_bytes none in
     omega arith
 
--- a run asks a ring for no more than its job costs
+-- a run requests from a ring at most what its job costs
 abbrev RunCosts : ℕ → ℕ → (Job → Cost) → JobRun → Type 0
 RunCosts rings most costs run = IsRun run × CostsAtMost rings most run.job (costs run.job)
 
@@ -107,7 +107,7 @@ parts_within rings most ring w costs lt (run ∷ runs) (p ∷ parts) all each =
     All-cons (λ entries. asked_bytes w entries ≤ most) p parts (run_within rings most ring w costs run p lt (all 0 run (omega arith)) each.0)
     (parts_within rings most ring w costs lt runs parts (λ k d lt. all (suc k) d (omega arith)) each.1)
 
--- what holds of all runs holds of a worker's own
+-- what holds for all runs holds for a worker's own
 own_all : (Q : JobRun → Type 0) (w : ℕ) (runs : List JobRun) → All Q runs → All Q (own_runs w runs)
 own_all Q w [] all = All-nil Q
 own_all Q w (run ∷ runs) all = by_test (run.job.worker == w) (own_all Q w runs (λ k d lt. all (suc k) d (omega arith)))
@@ -116,7 +116,7 @@ own_all Q w (run ∷ runs) all = by_test (run.job.worker == w) (own_all Q w runs
     by_test true rest = All-cons Q run (own_runs w runs) (all 0 run (omega arith)) rest
     by_test false rest = rest
 
--- and what holds of all jobs of all their runs
+-- and what holds for all jobs holds for all their runs
 jobs_all : (P : Job → Type 0) (Q : JobRun → Type 0) (runs : List JobRun) → All P (map (λ run. run.job) runs) → All Q runs → All (λ run. Q run × P run.job) runs
 jobs_all P Q [] jobs all = All-nil (λ run. Q run × P run.job)
 jobs_all P Q (run ∷ runs) jobs all =
@@ -175,7 +175,7 @@ module _ {S : Type 0} (position : S → ℕ) (takes : S → SinkItem → S → T
   all_rings ring (o ∷ os) [] rows long ends keep = absurd ends
   all_rings ring (o ∷ os) (e ∷ es) [] long ends keep = absurd ends
 
--- ---- what calls ask for
+-- ---- what calls request
 
 asked_in : (calls : List Done) → call_total asks calls ≡ call_total makes calls + call_total fails calls
 asked_in [] = refl

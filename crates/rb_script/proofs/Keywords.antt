@@ -1,4 +1,4 @@
--- A line says one thing at most.
+-- A line makes at most one statement.
 use Rattle.std.proofs.Common.{◌≡◌, ◌==◌, ◌+◌, ℕ, true, false, List, [], ◌∷◌, length, slice_index, codes, refl, sym, ap, ◌∙◌}
 use Rattle.std.proofs.lemmas.Bool.{eq-eqb}
 use Rattle.hex.proofs.HexLemmas.{decode_of-same}
@@ -7,7 +7,7 @@ use Rattle.rb_world.specs.declared.opening.RingSetup.{RingSetup}
 use Rattle.rb_script.specs.ScriptText.{Statement, SpellsNumber, SaysRing, SaysWorker, SaysTurns, SaysOneTurn, SaysWords, Says, words_of}
 use Rattle.rb_script.specs.ScriptText.Statement.{RingOf, WorkerOf, TurnsOf}
 
--- a number that differs for each of the words in front
+-- a number that differs for each keyword
 abbrev key : List ℕ → ℕ
 key word = slice_index word 0 + length word
 

@@ -1,4 +1,4 @@
--- What was printed of a script's run, once the lines of its turns and those at its end were handed on.
+-- What was printed of a script's run, after the lines of its turns and of its end were written.
 use Rattle.std.proofs.Common.{Bool, ◌≡◌, ℕ, List, [], Result, Ok, Err, subst}
 use Rattle.std.specs.Prelude.{Option, OnOk}
 use Rattle.std.specs.Io.KnownBytes.{Appends}
@@ -9,7 +9,7 @@ use Rattle.rb_script.specs.Simulation.{Simulates}
 use Rattle.rb_script.specs.declared.sim_command.SimFault.{SimFault}
 use Rattle.rb_script.specs.Simulated.{PrintsSim}
 
--- the slices that were printed are those of the run's lines
+-- the slices that were printed are the run's lines
 pub prints_run : (draw : Bool) (text : List ℕ) (script : Script) (none turns ends turns_lent ends_lent : List ℕ) (before between after : Option (List ℕ)) (r : Result (Unit {0}) SimFault) → StandFor (lines_of text) script → none ≡ [] → Simulates draw script none turns ends → turns_lent ≡ turns → ends_lent ≡ ends → Appends before between turns_lent → OnOk r (Appends between after ends_lent) → OnOk r (PrintsSim draw text before after)
 prints_run draw text script none turns ends turns_lent ends_lent before between after (Ok done) stands empty ran same_turns same_ends first second = record {
   script = script;

@@ -123,7 +123,7 @@ may-open s programs setups may accepted are =
       rooms = may.rooms;
     }
 
--- and is refused for memory alone
+-- opening it fails only for memory
 pub memory-only : {T : Type 0} (rings : List RingSetup) (setups : List WorkerSetup) (r : Result T WorldOpenFault) (f : WorldOpenFault) → r ≡ Err f → MayOpen rings setups
     → ((r ≡ Err fault.Ring) ↔ (¬ AreRings rings)) → ((r ≡ Err fault.ContextLength) ↔ (AreRings rings × ¬ HaveContexts setups))
     → ((r ≡ Err fault.Rings) ↔ (AreRings rings × HaveContexts setups × ¬ HaveRings (length rings) setups))
@@ -136,7 +136,7 @@ memory-only rings setups r fault.Workers is may ring context count worker chapte
 memory-only rings setups r fault.Chapter is may ring context count worker chapter = absurd ((chapter.0 is).4 may.rooms)
 memory-only rings setups r fault.Memory is may ring context count worker chapter = refl
 
--- the actors of the script are there
+-- the actors of the script exist
 pub actors-there : (s : Script) (programs : List Subject) (setups : List WorkerSetup) (v : WorldValue) → MayRunScript s → AreSetups s.workers.items programs setups → IsOpenedWorld s.rings.items setups v → All (IsThere v) s.actors.items
 actors-there s programs setups v may are opened =
     let rings : length v.rings ≡ length s.rings.items = ap length opened.rings_are ∙ length-opened (length setups) 0 s.rings.items in
@@ -148,13 +148,13 @@ actors-there s programs setups v may are opened =
     there (Consumer n) h rings workers = omega arith
     there (Keeper n) h rings workers = omega arith
 
--- where memory ran out behind the programs
+-- memory ran out after the programs were verified
 pub breaks-off : (draw : Bool) (s : Script) (lent programs : List Subject) (before after : List ℕ) → lent ≡ programs → AllZip (IsWorkersProgram (length s.rings.items)) (map worker_text s.workers.items) programs
     → (after ≡ before) ⊎ BeginsSimulationWith draw s lent before after → BreaksOff draw s before after
 breaks-off draw s lent programs before after same accepted (inl none) = inl none
 breaks-off draw s lent programs before after same accepted (inr begun) = inr (record { programs = programs; accepted = accepted; begun = subst (λ l. BeginsSimulationWith draw s l before after) same begun })
 
--- the same by what is lent of the script and of its workers' setups
+-- the same, from the lent script and its workers' setups
 module _ (s : Script) (programs : List Subject) (setups : List WorkerSetup) (workers : List ScriptWorker) (rings : List RingSetup) (lent : List WorkerSetup) (workers_are : workers ≡ s.workers.items) (rings_are : rings ≡ s.rings.items)
     (lent_are : lent ≡ setups) (may : MayRunScript s) (accepted : AllZip (IsWorkersProgram (length s.rings.items)) (map worker_text s.workers.items) programs) (are : AreSetups workers programs setups) where
   pub setups-are : AreSetups s.workers.items programs setups

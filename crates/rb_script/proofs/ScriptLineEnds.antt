@@ -50,7 +50,7 @@ first-cut text end found =
 none-inside : (text : List ℕ) → position is_feed text ≡ None → (i : ℕ) → i < length text → i < position_or_len is_feed text
 none-inside text none i low = grind (arith, nat_tests)
 
--- where no line feed is, there is one line
+-- a text without a line feed is one line
 pub first-all : (text : List ℕ) → 1 ≤ length text → position is_feed text ≡ None → lines_of text ≡ text ∷ lines_of (take (length text - length text) (drop (length text) text))
 first-all [] some none = absurd (omega arith)
 first-all (byte ∷ line) some none =

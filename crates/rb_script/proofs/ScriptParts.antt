@@ -1,4 +1,4 @@
--- The lines of a script, one after the other.
+-- The lines of a script, in sequence.
 use Rattle.std.proofs.Common.{◌≡◌, ◌<◌, ◌≤◌, ◌+◌, ◌-◌, ◌⊎◌, ℕ, List, [], ◌∷◌, ◌++◌, length, map, take, drop, replicate, Err, Result, refl, sym, ap, subst, ◌∙◌, inl, inr, append-nil, append_assoc, arith}
 use Rattle.std.specs.List.{AllZip}
 use Rattle.std.proofs.lemmas.Bool.{cases_order}
@@ -12,7 +12,7 @@ use Rattle.rb_script.specs.Scripts.{WorkerText, worker_text, script_rings, scrip
 use Rattle.rb_script.specs.inner.ScriptRead.{MayFollowScript, MayAddLine, Adds, AddsLine, IsFaultUnless, HasRead}
 use Rattle.rb_script.proofs.Keywords.{says-one}
 
--- ---- what is said on both sides of a place
+-- ---- statements before and after a line
 
 pub rings-append : (a b : List Statement) → script_rings (a ++ b) ≡ script_rings a ++ script_rings b
 rings-append [] b = refl
@@ -54,7 +54,7 @@ order-front : (front a b : List Statement) → AreInOrder front (a ++ b) → Are
 order-front front [] b h = tt
 order-front front (y ∷ a) b h = (h.0, order-front (front ++ y ∷ []) a b h.1)
 
--- ---- lines and what they say
+-- ---- lines and their statements
 
 zip-long : (lines : List (List ℕ)) (said : List Statement) → AllZip Says lines said → length lines ≡ length said
 zip-long [] [] h = refl
@@ -94,7 +94,7 @@ begins-front a b (said, h) =
 begins-take : (n : ℕ) (lines : List (List ℕ)) → BeginsScript lines → BeginsScript (take n lines)
 begins-take n lines h = begins-front (take n lines) (drop n lines) (subst BeginsScript (sym (take-append-drop n lines)) h)
 
--- ---- the first line at fault is one
+-- ---- the first line at fault is unique
 
 script-begins : (lines : List (List ℕ)) → IsScript lines → BeginsScript lines
 script-begins lines (said, begins, worker) = (said, begins)
@@ -135,7 +135,7 @@ pub only-fault : (lines : List (List ℕ)) (fault : ScriptFault) → IsFaultOf l
 only-fault lines (Line number) h line first = inl (ap (λ l. err (Line l)) (one-fault lines number line h first))
 only-fault lines Memory h line first = inr refl
 
--- ---- one line more
+-- ---- one more line
 
 may-same : (x : Statement) (a b c d e f : ℕ) → a ≡ d → b ≡ e → c ≡ f → MayStandBehind a b c x → MayStandBehind d e f x
 may-same x a b c d e f p q r h = subst (λ n. MayStandBehind n e f x) p (subst (λ n. MayStandBehind a n f x) q (subst (λ n. MayStandBehind a b n x) r h))

@@ -1,4 +1,4 @@
--- What the words of a line say.
+-- The meaning of a line's words.
 use Rattle.std.proofs.Common.{◌≡◌, ◌≢◌, ◌==◌, ◌<◌, ◌^◌, ℕ, Bool, true, false, List, [], ◌∷◌, length, get_or, Option, Some, None, MatchOption, Bor, Ok, codes, refl, sym, ap, subst, ◌∙◌, inl, inr, lit<, arith}
 use Rattle.std.specs.List.{All, join_with_byte}
 use Rattle.std.specs.Int.{IsInRange}

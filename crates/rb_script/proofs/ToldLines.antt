@@ -1,4 +1,4 @@
--- Which lines `sim` tells.
+-- Which line `sim` reports.
 use Rattle.std.proofs.Common.{Bool, ◌≡◌, ◌≤◌, ◌+◌, ◌⊎◌, ℕ, List, [], ◌∷◌, ◌++◌, length, map, Result, Ok, Err, refl, sym, ap, subst, ◌∙◌, inl, inr, arith}
 use Rattle.std.specs.Prelude.{Option, Some, None, IfErr, IfSome}
 use Rattle.std.specs.Io.KnownBytes.{Appends, Keeps}
@@ -18,7 +18,7 @@ use Rattle.rb_script.specs.Simulated.{IsRefusedScript, IsSimFaultOf, IsTold, Bre
 abbrev pub err : SimFault → Result (Unit {0}) SimFault
 err fault = Err fault
 
--- a script that stands for the same lines has the same rings and workers
+-- a script of the same lines has the same rings and workers
 refused-too : (text : List ℕ) (s : Script) → StandFor (lines_of text) s → (line : ℕ) → IsRefusedScript text line → IsFirstRefused (length s.rings.items) (map worker_text s.workers.items) line
 refused-too text s stands line told =
     let same : told.stands.said ≡ stands.said = zip-one (lines_of text) told.stands.said stands.said told.stands.begins.says stands.begins.says in
@@ -32,13 +32,13 @@ has-worker s rings line first =
     omega arith
 
 module _ (text : List ℕ) where
-  -- a line at fault was told
+  -- a line at fault was reported
   pub told-fault : (l : ℕ) → IsFirstFault (lines_of text) l → (line : ℕ) → IsSimFaultOf text (Line line) → IsTold line (err (Line l))
   told-fault l fault line (inl first) = inl (ap (λ n. err (Line n)) (one-fault (lines_of text) l line fault first))
   told-fault l fault line (inr told) = absurd (no-fault-of-script (lines_of text) told.script told.stands (has-worker told.script (length told.script.rings.items) line told.first) l fault)
 
   module _ (s : Script) (stands : StandFor (lines_of text) s) (worker : HasWorker s) where
-    -- the line of a refused program was told
+    -- the line of a refused program was reported
     pub told-refused : (l : ℕ) → IsFirstRefused (length s.rings.items) (map worker_text s.workers.items) l → (line : ℕ) → IsSimFaultOf text (Line line) → IsTold line (err (Line l))
     told-refused l refused line (inl first) = absurd (no-fault-of-script (lines_of text) s stands worker line first)
     told-refused l refused line (inr told) = inl (ap (λ n. err (Line n)) (one-refused (length s.rings.items) (map worker_text s.workers.items) l line refused (refused-too text s stands line told)))
@@ -48,7 +48,7 @@ module _ (text : List ℕ) where
     none-told draw before after ends ran line (inl first) = no-fault-of-script (lines_of text) s stands worker line first
     none-told draw before after ends ran line (inr told) = none-refused (length s.rings.items) (map worker_text s.workers.items) ran.programs ran.accepted line (refused-too text s stands line told)
 
-  -- where memory ran out
+  -- memory ran out
   pub broken-off : (draw : Bool) (s : Script) → StandFor (lines_of text) s → (none turns lent : List ℕ) (before after : Option (List ℕ)) → none ≡ [] → BreaksOff draw s none turns → lent ≡ turns → Appends before after lent → BreaksOffSim draw text before after
   broken-off draw s stands none turns lent before after empty broken same printed = inr (record {
     script = s;
@@ -62,7 +62,7 @@ pub keeps-all : (known : Option (List ℕ)) → Keeps known known
 keeps-all None = tt
 keeps-all (Some xs) = refl
 
--- a fault that is told for memory or the device
+-- the fault is one of memory or of the device
 pub told-else : (line : ℕ) (fault : SimFault) → (fault ≡ Memory) ⊎ (fault ≡ Device) → IsTold line (err fault)
 told-else line fault (inl is) = inr (inl (ap err is))
 told-else line fault (inr is) = inr (inr (ap err is))
@@ -81,7 +81,7 @@ pub no-line : (fault : SimFault) (line : ℕ) → (fault ≡ Memory) ⊎ (fault 
 no-line fault line (inl is) told = let same : fault ≡ Line line = cc in let other : Memory ≡ Line line = sym is ∙ same in cc
 no-line fault line (inr is) told = let same : fault ≡ Line line = cc in let other : Device ≡ Line line = sym is ∙ same in cc
 
--- what holds of every text, and of the one that was read
+-- what holds for every text, and for the one that was read
 pub for-every : (known : Option (List ℕ)) (P : List ℕ → Type 0) → ((text : List ℕ) → P text) → IfSome known P
 for-every None P h = tt
 for-every (Some text) P h = h text

@@ -1,4 +1,4 @@
--- The lines of turns, one after the other.
+-- The lines of turns, in sequence.
 use Rattle.std.specs.Prelude.{slice_get}
 use Rattle.std.proofs.Common.{◌≡◌, ℕ, Bool, ◌+◌, ◌-◌, ◌<◌, Some, None, arith, List, [], ◌∷◌, ◌++◌, length, take, get_or, refl, sym, ap, subst, ◌∙◌, append-nil, append_assoc}
 use Rattle.std.specs.List.{AllZip}
@@ -26,7 +26,7 @@ last-pushed r [] found = refl
 last-pushed r (t ∷ []) found = refl
 last-pushed r (t ∷ u ∷ taken) found = last-pushed r (u ∷ taken) found
 
--- the line of the element at the last place
+-- the line of the last element
 last-at : (r : ℕ) (taken : List Taken) (i : ℕ) (found : Taken) → ℕ.suc i ≡ length taken → Some found ≡ slice_get taken i → last_line r taken ≡ take_line r found
 last-at r [] i found n e = absurd (omega arith)
 last-at r (t ∷ []) ℕ.zero found n e = let same : found ≡ t = cc in ap (take_line r) (sym same)
@@ -38,7 +38,7 @@ pub last-found : (r : ℕ) (taken : List Taken) (found : Taken) → Some found �
 last-found r [] found e = absurd (let no : Some found ≡ None = e in cc)
 last-found r (t ∷ taken) found e = last-at r (t ∷ taken) (length (t ∷ taken) - 1) found (omega arith) e
 
--- what was taken of the ring behind a take
+-- what was taken from the ring after a take
 taken-now : (old new : World) (r : ℕ) (found : Taken) → TakesConsumerTurn r old (Took found) new → (new.rings r).taken ≡ (old.rings r).taken ++ taken_by found
 taken-now old new r found (b, m, e) = ap (λ (world : World). (world.rings r).taken) e ∙ (ap (λ (s : WorldRing). s.taken) (placed-here-now b) ∙ m.taken_are)
   where
@@ -106,7 +106,7 @@ module _ (r : ℕ) (old new : World) where
   keeper-shown (turn.Chapter n) event tells = refl
   keeper-shown turn.Memory event tells = refl
 
--- the line by what is seen is the line of what happened
+-- the line from what is visible is the line of what happened
 pub shown-is : (actor : Actor) (old new : World) (done : TurnDone) (event : TurnEvent) → TellsEvent done event → WorldStep old actor event new → shown_text actor done new ≡ turn_text actor done event
 shown-is (Worker w) old new done event tells step = refl
 shown-is (Keeper r) old new done event tells step = keeper-shown r old new done event tells
@@ -145,7 +145,7 @@ passed-push (a ∷ actors) old mid new [] worlds actor done before turned chapte
 passed-push (a ∷ actors) old mid new (d ∷ dones) [] actor done before turned chapters = absurd before
 passed-push (a ∷ actors) old mid new (d ∷ dones) (w ∷ worlds) actor done before turned chapters = (before.0, before.1, passed-push actors w mid new dones worlds actor done before.2 turned chapters)
 
--- a line that was written apart, and then joined to the text
+-- a line that was written to a buffer of its own and then appended to the text
 pub line-joined : (text cleared line shown joined : List ℕ) → cleared ≡ [] → line ≡ cleared ++ shown → joined ≡ text ++ line → joined ≡ text ++ shown
 line-joined text cleared line shown joined none wrote more = more ∙ ap (λ l. text ++ l) (wrote ∙ ap (λ l. l ++ shown) none)
 

@@ -1,4 +1,4 @@
--- The programs of a script's workers, one after the other.
+-- The programs of a script's workers, in sequence.
 use Rattle.std.proofs.Common.{◌≡◌, ◌<◌, ◌+◌, ◌⊎◌, ℕ, List, [], ◌∷◌, ◌++◌, length, map, take, drop, get_or, Result, Err, refl, sym, ap, subst, ◌∙◌, inl, inr}
 use Rattle.std.specs.List.{AllZip}
 use Rattle.std.proofs.lemmas.List.{take_more, take-append-drop, drop_more, map-append}
@@ -46,7 +46,7 @@ programs-long rings [] (y ∷ programs) h = absurd h
 programs-long rings (x ∷ workers) [] h = absurd h
 programs-long rings (x ∷ workers) (y ∷ programs) h = ap ℕ.suc (programs-long rings workers programs h.1)
 
--- ---- the first worker that is refused is one
+-- ---- the first worker that is refused is unique
 
 module _ (rings : ℕ) where
   has-program : (worker : WorkerText) (front : List WorkerText) (programs : List Subject) → AllZip (IsWorkersProgram rings) (worker ∷ front) programs → HasProgram rings worker

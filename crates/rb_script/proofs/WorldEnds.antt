@@ -30,11 +30,11 @@ machines-long [] (y ∷ machines) h = absurd h
 machines-long (x ∷ setups) [] h = absurd h
 machines-long (x ∷ setups) (y ∷ machines) h = ap ℕ.suc (machines-long setups machines h.1)
 
--- a world has 256 workers at most
+-- a world has at most 256 workers
 pub few-machines : (rings : List RingSetup) (setups : List WorkerSetup) (v : WorldValue) → IsOpenedWorld rings setups v → MayOpen rings setups → length v.machines ≤ 256
 few-machines rings setups v opened allowed = let same = machines-long setups v.machines opened.machines_are in let most = allowed.worker_count.1 in omega arith
 
--- and 16 rings
+-- and at most 16 rings
 pub few-rings : (rings : List RingSetup) (setups : List WorkerSetup) (v : WorldValue) → IsOpenedWorld rings setups v → MayOpen rings setups → length v.rings ≤ 16
 few-rings rings setups v opened allowed = let same = ap length opened.rings_are ∙ length-opened (length setups) 0 rings in let most = allowed.ring_count.0 in omega arith
 
@@ -42,7 +42,7 @@ few-rings rings setups v opened allowed = let same = ap length opened.rings_are 
 pub line-more : (line_at : ℕ → List ℕ) (n : ℕ) (start before after : List ℕ) → before ≡ start ++ lines_below line_at n → after ≡ before ++ line_at n → after ≡ start ++ lines_below line_at (n + 1)
 line-more line_at n start before after so_far more = rw add-one (more ∙ (ap (λ l. l ++ line_at n) so_far ∙ append_assoc start (lines_below line_at n) (line_at n)))
 
--- the line of a ring by what it tells, which it counts from its chapter's opening
+-- the line of a ring from its queries and counts, which it adds to those of its chapter's opening
 module _ (earlier : List Entry) (ring : ChapterRing) (kept : IsKept earlier ring.chapter) where
   same : IsSameFrom ring.chapter.opening.setup earlier ring.chapter.opening ring.chapter.entries
   same = (goes-on ring.chapter.opening.setup earlier ring.chapter.opening kept.continues.earlier_legal kept.continues.opened ring.chapter.entries).1 kept.continues.legal
@@ -54,7 +54,7 @@ module _ (earlier : List Entry) (ring : ChapterRing) (kept : IsKept earlier ring
       ∙ (ap (λ n. ring_line r (producer_now (whole_ring earlier ring)) n counts) (q ∙ same.query CONS_POS)
       ∙ (ap (λ c. ring_line r (producer_now (whole_ring earlier ring)) (consumer_now (whole_ring earlier ring)) c) (k ∙ ap capped_counts same.counts) ∙ ap (λ s. ring_state_text r s) e))
 
-  -- its drawing by what its chapter stands for at its end
+  -- its drawing, from the summary of its chapter's end
   pub drawing-shown : (r : ℕ) (whole : Ring) → whole_ring earlier ring ≡ whole → (chapter : Chapter) → chapter ≡ ring.chapter → (closing : Standing) → closing ≡ closing_of chapter
       → drawing_line r closing.setup.size closing.consumer closing.producer closing.records ≡ ring_drawing r whole
   drawing-shown r whole e chapter is closing closes =

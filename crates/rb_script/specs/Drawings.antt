@@ -1,4 +1,5 @@
--- A ring drawn as one line: from its consumer position to its producer position, a box for each record, and how many bytes are free (own).
+-- A ring drawn as one line: from its consumer position to its producer position, with a box for each record, and the
+-- number of free bytes (own).
 --
 --     draw 0 | consumer 0 | busy 16 worker 0 serial 0 | waiting 24 worker 1 serial 0 | producer 40 | free 4056
 use Rattle.std.specs.Prelude.{ℕ, ◌-◌, List, ◌++◌, codes}
@@ -17,15 +18,15 @@ status_word Waiting = codes "waiting"
 status_word Consumed = codes "consumed"
 status_word Discarded = codes "discarded"
 
--- what has become of a record, the bytes that it takes with its header, and whose it is
+-- a record's status, the bytes that it takes with its header, its worker and its serial
 unfoldable pub box_text : Shown → List ℕ
 box_text s = codes " | " ++ status_word s.status ++ codes " " ++ decimal (span s.len) ++ codes " worker " ++ decimal s.worker ++ codes " serial " ++ decimal s.serial
 
--- the number of the ring and where the next take looks
+-- the ring's number and its consumer position
 unfoldable pub drawing_front : (ring consumer : ℕ) → List ℕ
 drawing_front ring consumer = codes "draw " ++ decimal ring ++ codes " | consumer " ++ decimal consumer
 
--- where the next record is granted, and how many of the ring's bytes are not between the two positions
+-- the producer position, and how many of the ring's bytes are not between the two positions
 unfoldable pub drawing_end : (size consumer producer : ℕ) → List ℕ
 drawing_end size consumer producer = codes " | producer " ++ decimal producer ++ codes " | free " ++ decimal (size - (producer - consumer))
 

@@ -1,4 +1,4 @@
--- The programs that the workers of a script run, and the first worker whose program is refused (own).
+-- The programs that a script's workers run, and the first worker whose program is refused (own).
 use Rattle.std.specs.Prelude.{ℕ, ◌≡◌, ◌≤◌, List, ◌∷◌, ◌++◌, length}
 use Rattle.std.specs.List.{AllZip}
 use Rattle.rb_insn.specs.Spelling.{SpellsAll}
@@ -11,8 +11,8 @@ use Rattle.rb_script.specs.declared.script_fault.ScriptFault.{ScriptFault}
 use Rattle.rb_script.specs.declared.script_fault.ScriptFault.TheVariants.{Line, Memory}
 use Rattle.rb_script.specs.Scripts.{WorkerText}
 
--- the worker's text is the bytes of this program in hex; the program is well-shaped, and has a valid annotation for so many rings and a
--- context as long as the worker's
+-- the worker's text is this program in hex; the program is well-shaped, and has a valid annotation for this number of
+-- rings and a context as long as the worker's
 pub record IsWorkersProgram (rings : ℕ) (worker : WorkerText) (subject : Subject) : Type 0 where
   pub bytes : List ℕ
   pub hex : IsHexOf (without_white_space worker.program) bytes
@@ -25,11 +25,11 @@ pub record IsWorkersProgram (rings : ℕ) (worker : WorkerText) (subject : Subje
   pub few_rings : rings ≤ 16
   pub short_context : length worker.context ≤ 65536
 
--- some program is the worker's
+-- the worker's text is some program
 abbrev pub HasProgram : ℕ → WorkerText → Type 0
 HasProgram rings worker = (subject : Subject) × IsWorkersProgram rings worker subject
 
--- the worker of this line is the first whose program is refused
+-- the worker on this line is the first whose program is refused
 pub record IsFirstRefused (rings : ℕ) (workers : List WorkerText) (line : ℕ) : Type 0 where
   pub front : List WorkerText
   pub worker : WorkerText
@@ -39,7 +39,7 @@ pub record IsFirstRefused (rings : ℕ) (workers : List WorkerText) (line : ℕ)
   pub refused : HasProgram rings worker → ⊥
   pub line_is : worker.line ≡ line
 
--- a fault that is told of the programs
+-- the fault reported for the programs
 abbrev pub IsProgramsFault : ℕ → List WorkerText → ScriptFault → Type 0
 IsProgramsFault rings workers (Line line) = IsFirstRefused rings workers line
 IsProgramsFault rings workers Memory = Unit {0}

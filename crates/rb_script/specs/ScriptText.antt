@@ -1,4 +1,4 @@
--- The text of a script: its lines, their words, and what a line says (own).
+-- The text of a script: its lines, their words, and the meaning of a line (own).
 use Rattle.std.specs.Prelude.{ℕ, ◌≡◌, ◌≢◌, ◌≤◌, ◌==◌, ◌&&◌, ◌||◌, not, Bool, List, [], ◌∷◌, Ok, codes, length, if◌then◌else◌}
 use Rattle.std.specs.Char.{is_ascii, is_ascii_whitespace}
 use Rattle.std.specs.List.{AllPass, onto_first, slice_split}
@@ -10,22 +10,23 @@ use Rattle.rb_world.specs.declared.actor.Actor.TheVariants.{Worker, Consumer, Ke
 use Rattle.rb_world.specs.declared.opening.RingSetup.{RingSetup}
 use Rattle.rb_world.specs.OpenedWorlds.{IsRingSetup}
 
--- what a line says: a ring, a worker by the hex of its program and the bytes of its context, or so many turns of an actor
+-- the statement of a line: a ring; a worker, by the hex of its program and the bytes of its context; or a number of
+-- turns of an actor
 pub data Statement : Type 0 where
   RingOf : RingSetup → Statement
   WorkerOf : (program context : List ℕ) → Statement
   TurnsOf : (actor : Actor) (count : ℕ) → Statement
 
--- the lines of a text: each ends by a line feed, which the last one need not have
+-- the lines of a text: each ends with a line feed, which is optional for the last one
 abbrev pub lines_of : List ℕ → List (List ℕ)
 lines_of [] = []
 lines_of (byte ∷ text) = if byte == 10 then [] ∷ lines_of text else onto_first byte (lines_of text)
 
--- the words of a line: a space parts two of them
+-- the words of a line, separated by single spaces
 abbrev pub words_of : List ℕ → List (List ℕ)
 words_of line = slice_split (λ byte. byte == 32) line
 
--- all is ASCII, and no white space but the space is there
+-- the byte is ASCII, and not white space other than a space
 abbrev pub is_plain : ℕ → Bool
 is_plain byte = is_ascii byte && (byte == 32 || not (is_ascii_whitespace byte))
 
@@ -34,19 +35,19 @@ pub record SpellsNumber (word : List ℕ) (number : ℕ) : Type 0 where
   pub digits : IsNumeral 10 word
   pub value : digits_value 10 word ≡ number
 
--- SIZE START or SIZE START ROOM; the room is 65,536 where none is given
+-- SIZE START or SIZE START ROOM; the default room is 65,536
 abbrev pub SaysRing : List (List ℕ) → RingSetup → Type 0
 SaysRing (size ∷ start ∷ []) setup = SpellsNumber size setup.size × SpellsNumber start setup.start × (setup.room ≡ 65536)
 SaysRing (size ∷ start ∷ room ∷ []) setup = SpellsNumber size setup.size × SpellsNumber start setup.start × SpellsNumber room setup.room
 SaysRing words setup = ⊥
 
--- HEX or HEX CTXHEX; the hex of a program is decoded with the program, and no context is an empty one
+-- HEX or HEX CTXHEX; the program's hex is decoded later, with the program; the default context is empty
 abbrev pub SaysWorker : List (List ℕ) → (program context : List ℕ) → Type 0
 SaysWorker (hex ∷ []) program context = (hex ≢ []) × (program ≡ hex) × (context ≡ [])
 SaysWorker (hex ∷ bytes ∷ []) program context = (hex ≢ []) × (program ≡ hex) × (bytes ≢ []) × (decode_of bytes ≡ Ok context)
 SaysWorker words program context = ⊥
 
--- NUMBER or NUMBER COUNT; one turn where no count is given
+-- NUMBER or NUMBER COUNT; the default is one turn
 abbrev pub SaysTurns : List (List ℕ) → (number count : ℕ) → Type 0
 SaysTurns (number ∷ []) n count = SpellsNumber number n × (count ≡ 1)
 SaysTurns (number ∷ times ∷ []) n count = SpellsNumber number n × SpellsNumber times count
@@ -57,7 +58,7 @@ abbrev pub SaysOneTurn : List (List ℕ) → (number count : ℕ) → Type 0
 SaysOneTurn (number ∷ []) n count = SpellsNumber number n × (count ≡ 1)
 SaysOneTurn words n count = ⊥
 
--- the word in front, and the words behind it
+-- the keyword and the words after it
 abbrev pub SaysWords : List (List ℕ) → Statement → Type 0
 SaysWords [] statement = ⊥
 SaysWords (word ∷ words) (RingOf setup) = (word ≡ codes "ring") × SaysRing words setup
@@ -66,13 +67,14 @@ SaysWords (word ∷ words) (TurnsOf (Worker w) count) = (word ≡ codes "w") × 
 SaysWords (word ∷ words) (TurnsOf (Consumer r) count) = (word ≡ codes "c") × SaysTurns words r count
 SaysWords (word ∷ words) (TurnsOf (Keeper r) count) = (word ≡ codes "k") × SaysOneTurn words r count
 
--- sizes, starts and rooms are those of a world's rings, a context has at most 65,536 bytes, and a line gives 1 to 1,000,000 turns
+-- sizes, starts and rooms are valid for a world's rings, a context has at most 65,536 bytes, and a line has 1 to
+-- 1,000,000 turns
 abbrev pub IsStatementWithinBounds : Statement → Type 0
 IsStatementWithinBounds (RingOf setup) = IsRingSetup setup × IsChapterRoom setup.room
 IsStatementWithinBounds (WorkerOf program context) = length context ≤ 65536
 IsStatementWithinBounds (TurnsOf actor count) = (1 ≤ count) × (count ≤ 1000000)
 
--- a line says so
+-- a line makes a statement
 pub record Says (line : List ℕ) (statement : Statement) : Type 0 where
   pub plain : AllPass is_plain line
   pub words : SaysWords (words_of line) statement

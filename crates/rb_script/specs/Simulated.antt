@@ -9,8 +9,8 @@ use Rattle.rb_script.specs.Simulation.{Simulates, BreaksOff}
 use Rattle.rb_script.specs.declared.sim_command.SimFault.{SimFault}
 use Rattle.rb_script.specs.declared.sim_command.SimFault.TheVariants.{Line, Memory, Device}
 
--- the script that the text stands for was run with the programs of its workers, and the lines of its turns were printed, and then those of
--- its workers and rings
+-- the script of the text was run with its workers' programs, and the lines of its turns were printed, followed by those
+-- of its workers and rings
 pub record PrintsSim (draw : Bool) (text : List ℕ) (before after : Option (List ℕ)) : Type 0 where
   pub script : Script
   pub turns : List ℕ
@@ -21,7 +21,7 @@ pub record PrintsSim (draw : Bool) (text : List ℕ) (before after : Option (Lis
   pub turns_printed : Appends before between turns
   pub ends_printed : Appends between after ends
 
--- where memory ran out, nothing was printed, or the lines of the first turns of the script that the text stands for
+-- memory ran out: nothing was printed, or the lines of the first turns of the text's script
 pub record PrintsBeginning (draw : Bool) (text : List ℕ) (before after : Option (List ℕ)) : Type 0 where
   pub script : Script
   pub turns : List ℕ
@@ -32,18 +32,20 @@ pub record PrintsBeginning (draw : Bool) (text : List ℕ) (before after : Optio
 abbrev pub BreaksOffSim : Bool → List ℕ → (before after : Option (List ℕ)) → Type 0
 BreaksOffSim draw text before after = Keeps before after ⊎ PrintsBeginning draw text before after
 
--- no line of the text is at fault, and on this line is the first worker whose program is refused
+-- no line of the text is at fault, and the first worker whose program is refused is on this line
 pub record IsRefusedScript (text : List ℕ) (line : ℕ) : Type 0 where
   pub script : Script
   pub stands : StandFor (lines_of text) script
   pub first : IsFirstRefused (length script.rings.items) (map worker_text script.workers.items) line
 
--- a fault that is told of the text: the first line at fault, or where none is, the first line whose program is refused
+-- the fault reported for the text: the first line at fault or, if there is none, the first line whose program is
+-- refused
 abbrev pub IsSimFaultOf : List ℕ → SimFault → Type 0
 IsSimFaultOf text (Line line) = IsFirstFault (lines_of text) line ⊎ IsRefusedScript text line
 IsSimFaultOf text Memory = Unit {0}
 IsSimFaultOf text Device = Unit {0}
 
--- a line that is at fault, or whose program is the first refused one, is told, unless memory ran out or the device failed
+-- a line that is at fault, or the first whose program is refused, is reported unless memory ran out or the device
+-- failed
 abbrev pub IsTold : ℕ → Result (Unit {0}) SimFault → Type 0
 IsTold line r = (r ≡ Err (Line line)) ⊎ ((r ≡ Err Memory) ⊎ (r ≡ Err Device))

@@ -1,4 +1,4 @@
--- What is written of the turns of a world and of its end, and what a script's run is (own).
+-- The output of a world's turns and of its end, and a script's run (own).
 use Rattle.std.specs.Prelude.{ℕ, ◌≡◌, Bool, true, false, List, [], ◌∷◌, ◌++◌, Option, Some, None, length, map, take, ◌⊎◌}
 use Rattle.std.specs.List.{AllZip}
 use Rattle.rb_world.specs.declared.actor.Actor.{Actor}
@@ -22,18 +22,19 @@ use Rattle.rb_script.specs.OutputLines.{take_line, chapter_line, done_line, at_l
 use Rattle.rb_script.specs.Programs.{IsWorkersProgram}
 use Rattle.rb_script.specs.Scripts.{worker_text}
 
--- the lines of the numbers below this one, in their order
+-- the lines with numbers below n, in order
 abbrev pub lines_below : (ℕ → List ℕ) → ℕ → List ℕ
 lines_below line_at ℕ.zero = []
 lines_below line_at (ℕ.suc n) = lines_below line_at n ++ line_at n
 
--- a take has a line, with what it found, and a chapter that was handed out has one, with the number that was answered
+-- a take has a line with what it found, and a chapter that was handed out has a line with its number; other turns have
+-- none
 abbrev pub turn_text : Actor → TurnDone → TurnEvent → List ℕ
 turn_text (Consumer r) done (Took found) = take_line r found
 turn_text (Keeper r) (Chapter n) event = chapter_line r n
 turn_text actor done event = []
 
--- behind a turn each ring is drawn, where that is asked for
+-- the drawing of a ring after a turn; drawings are optional
 abbrev pub drawing_of : WorldValue → ℕ → List ℕ
 drawing_of v r = ring_drawing r ((world_of v).rings r).ring
 
@@ -41,20 +42,20 @@ abbrev pub drawings : Bool → WorldValue → List ℕ
 drawings true v = lines_below (drawing_of v) (length v.rings)
 drawings false v = []
 
--- the lines of turns, in their order, each in front of the drawings of the world behind it
+-- the lines of turns, in order, each followed by the drawings of the world after that turn
 abbrev pub turns_text : Bool → List Actor → List TurnDone → List TurnEvent → List WorldValue → List ℕ
 turns_text draw (actor ∷ actors) (done ∷ dones) (event ∷ events) (world ∷ worlds) = turn_text actor done event ++ drawings draw world ++ turns_text draw actors dones events worlds
 turns_text draw _ _ _ _ = []
 
--- these are the worlds behind each of the turns
+-- the worlds after each of the turns
 abbrev pub PassesWorlds : List Actor → WorldValue → List TurnDone → List WorldValue → WorldValue → Type 0
 PassesWorlds [] old [] [] new = new ≡ old
 PassesWorlds (actor ∷ actors) old (done ∷ dones) (world ∷ worlds) new =
     IsTurnOf actor old done world × TurnsChaptersOf actor done old.rings world.rings × PassesWorlds actors world dones worlds new
 PassesWorlds _ old _ _ new = ⊥
 
--- the turns of these actors, one after the other, are a run of the world, and were made as the turns of a run are, with what becomes of the
--- chapters; some answers tell what happened in each; and the lines of these turns were added to the text
+-- The turns of these actors, in order, are a run of the world and change chapters as turns do. Their results report
+-- what happened in each, and their lines were appended to the text.
 pub record WritesRun (draw : Bool) (actors : List Actor) (old new : WorldValue) (before after : List ℕ) : Type 0 where
   pub dones : List TurnDone
   pub events : List TurnEvent
@@ -65,7 +66,8 @@ pub record WritesRun (draw : Bool) (actors : List Actor) (old new : WorldValue) 
   pub passed : PassesWorlds actors old dones worlds new
   pub text_is : after ≡ before ++ turns_text draw actors dones events worlds
 
--- so many of the turns of these actors were made and their lines were added to the text; if one more was made, it has no line there
+-- some first turns of these actors were made and their lines were appended to the text; if one more was made, it has no
+-- line there
 pub record BeginsRun (draw : Bool) (actors : List Actor) (old : WorldValue) (before after : List ℕ) : Type 0 where
   pub turns : ℕ
   pub last : WorldValue
@@ -73,7 +75,7 @@ pub record BeginsRun (draw : Bool) (actors : List Actor) (old : WorldValue) (bef
 
 -- ---- the lines at the end
 
--- a worker's: what its program ended with, or its next unit
+-- a worker's line: the result of its program, or its next unit
 abbrev pub status_line : ℕ → (ended next : Option ℕ) → List ℕ
 status_line w (Some value) next = done_line w value
 status_line w None (Some unit) = at_line w unit
@@ -82,14 +84,14 @@ status_line w None None = []
 abbrev pub worker_line : WorldValue → ℕ → List ℕ
 worker_line v w = status_line w (result_of ((world_of v).workers w)) (next_unit ((world_of v).workers w))
 
--- a ring's: its positions and its counts, by its whole history
+-- a ring's line: its positions and its counts, by its whole history
 abbrev pub ring_state_text : ℕ → Ring → List ℕ
 ring_state_text r ring = ring_line r (producer_now ring) (consumer_now ring) (counts_of ring.history)
 
 abbrev pub ring_end_of : WorldValue → ℕ → List ℕ
 ring_end_of v r = ring_state_text r ((world_of v).rings r).ring
 
--- those of the workers, and then those of the rings
+-- the lines of the workers, followed by those of the rings
 abbrev pub world_text : WorldValue → List ℕ
 world_text v = lines_below (worker_line v) (length v.machines) ++ lines_below (ring_end_of v) (length v.rings)
 
@@ -100,8 +102,8 @@ pub record AreSetups (workers : List ScriptWorker) (programs : List Subject) (se
   pub programs_are : map (λ (x : WorkerSetup). x.program.now) setups ≡ programs
   pub contexts_are : map (λ (x : WorkerSetup). x.context.now) setups ≡ map (λ (w : ScriptWorker). w.context.items) workers
 
--- a world with the script's rings was opened for these programs and the contexts of the script's workers, the script's turns were run in
--- it and their lines were added to the text, and these are the lines at the end
+-- a world with the script's rings was opened for these programs and the contexts of the script's workers; the script's
+-- turns were run in it and their lines were appended to the text; `ends` are the lines at the end
 pub record SimulatesWith (draw : Bool) (s : Script) (programs : List Subject) (before after ends : List ℕ) : Type 0 where
   pub setups : List WorkerSetup
   pub first : WorldValue
@@ -111,13 +113,13 @@ pub record SimulatesWith (draw : Bool) (s : Script) (programs : List Subject) (b
   pub written : WritesRun draw s.actors.items first last before after
   pub ends_are : ends ≡ world_text last
 
--- the same with the programs that the texts of the script's workers are
+-- the same, with the programs of the script's workers
 pub record Simulates (draw : Bool) (s : Script) (before after ends : List ℕ) : Type 0 where
   pub programs : List Subject
   pub accepted : AllZip (IsWorkersProgram (length s.rings.items)) (map worker_text s.workers.items) programs
   pub ran : SimulatesWith draw s programs before after ends
 
--- the same world was opened, and the first of the script's turns were run in it, whose lines were added to the text
+-- the same world was opened, the first of the script's turns were run in it, and their lines were appended to the text
 pub record BeginsSimulationWith (draw : Bool) (s : Script) (programs : List Subject) (before after : List ℕ) : Type 0 where
   pub setups : List WorkerSetup
   pub first : WorldValue
@@ -130,6 +132,6 @@ pub record BeginsSimulation (draw : Bool) (s : Script) (before after : List ℕ)
   pub accepted : AllZip (IsWorkersProgram (length s.rings.items)) (map worker_text s.workers.items) programs
   pub begun : BeginsSimulationWith draw s programs before after
 
--- what was added to the text once memory ran out: nothing, or the lines of the first turns
+-- what was appended to the text when memory ran out: nothing, or the lines of the first turns
 abbrev pub BreaksOff : Bool → Script → (before after : List ℕ) → Type 0
 BreaksOff draw s before after = (after ≡ before) ⊎ BeginsSimulation draw s before after

@@ -1,4 +1,4 @@
-//! A ring drawn as one line.
+//! Draws a ring as one line.
 
 ghost use Rattle.std.specs.Prelude.{◌≡◌, ◌-◌, ◌++◌, OnOk, map};
 ghost use Rattle.std.specs.List.{flat_map};
@@ -10,7 +10,8 @@ use rb_chapter_ring::{Standing, UntakenRecord, UntakenStatus};
 use rb_history::span;
 use std::alloc::AllocError;
 
-// Adds the drawing of the ring of this number, of what its chapter stands for at its end: its positions, the records between them, and what is free.
+// Appends the drawing of a ring, from a summary of the end of its chapter: its positions, the records between them, and
+// the free bytes.
 pub(crate) fn push_drawing(
     text: &mut Vec<u8>,
     ring: u32,
@@ -26,7 +27,7 @@ pub(crate) fn push_drawing(
 }
 
 #[tactic(auto, unfolding(crate::specs::Drawings::drawing_front))]
-// Adds the number of the ring, and where the next take looks.
+// Appends the ring's number and its consumer position.
 fn push_front(text: &mut Vec<u8>, ring: u32, consumer: u64) -> Result<(), AllocError>
     ensures front { OnOk result (text.new.items ≡ text.old.items ++ drawing_front ring consumer) }
 {
@@ -37,7 +38,7 @@ fn push_front(text: &mut Vec<u8>, ring: u32, consumer: u64) -> Result<(), AllocE
 }
 
 #[tactic(auto, unfolding(crate::specs::Drawings::drawing_end))]
-// Adds where the next record is granted, and how many bytes are free.
+// Appends the producer position and the number of free bytes.
 fn push_end(text: &mut Vec<u8>, size: u64, consumer: u64, producer: u64) -> Result<(), AllocError>
     ensures end { OnOk result (text.new.items ≡ text.old.items ++ drawing_end size consumer producer) }
 {
@@ -47,14 +48,14 @@ fn push_end(text: &mut Vec<u8>, size: u64, consumer: u64, producer: u64) -> Resu
     push_number(text, free_in(size, consumer, producer))
 }
 
-// How many bytes of a ring are not between its positions.
+// Returns how many bytes of a ring are not between its positions.
 fn free_in(size: u64, consumer: u64, producer: u64) -> u64
     ensures { result ≡ size - (producer - consumer) }
 {
     size.saturating_sub(producer.saturating_sub(consumer))
 }
 
-// Adds the boxes of the records.
+// Appends the boxes of the records.
 fn push_boxes(text: &mut Vec<u8>, records: &[UntakenRecord]) -> Result<(), AllocError>
     ensures boxes { OnOk result (text.new.items ≡ text.old.items ++ flat_map box_text (map untaken_shown records.now)) }
 {
@@ -65,7 +66,7 @@ fn push_boxes(text: &mut Vec<u8>, records: &[UntakenRecord]) -> Result<(), Alloc
 }
 
 #[tactic(auto, unfolding(crate::specs::Drawings::box_text))]
-// Adds the box of a record: what has become of it, the bytes that it takes, and whose it is.
+// Appends a record's box: its status, the bytes that it takes, its worker and its serial.
 fn push_box(text: &mut Vec<u8>, untaken: &UntakenRecord) -> Result<(), AllocError>
     ensures shown { OnOk result (text.new.items ≡ text.old.items ++ box_text (untaken_shown untaken.now)) }
 {
@@ -79,7 +80,7 @@ fn push_box(text: &mut Vec<u8>, untaken: &UntakenRecord) -> Result<(), AllocErro
     push_number(text, untaken.serial)
 }
 
-// What has become of a record, in a word.
+// Returns the word for a record's status.
 fn word_of(status: UntakenStatus) -> &'static str
     ensures { result.now ≡ status_word (status_shown status) }
 {

@@ -1,13 +1,14 @@
-//! Scripts of worlds: rings, workers with their programs, and the turns that they take, one line each. A script is read as a whole;
-//! then its programs are verified, its turns are run in a `World`, and a line is written for each take and each chapter, and at the end
-//! for each worker and each ring. The command `sim` does so from a reader to a writer. Records follow Linux Documentation/bpf/ringbuf.rst,
-//! and calls bpf-helpers(7).
+//! Scripts of worlds: rings, workers with their programs, and the turns that they take, one per line.
+//!
+//! A script is read as a whole. Then its programs are verified and its turns are run in a `World`. Each take and each
+//! chapter writes a line, and at the end each worker and each ring does. The command `sim` does this from a reader to a
+//! writer. Records follow Linux Documentation/bpf/ringbuf.rst, and calls follow bpf-helpers(7).
 //!
 //! ```text
-//! ring 4096 0          a ring: its size, its start, and the room of its chapters, 65536 where none is given
-//! worker 1851..        a worker: its program in hex, and its context in hex where it has one
+//! ring 4096 0          a ring: its size, its start, and the room of its chapters (default: 65536)
+//! worker 1851..        a worker: its program in hex, and optionally its context in hex
 //! w 0 4                four turns of worker 0
-//! k 0                  the keeper of ring 0 hands its chapter out
+//! k 0                  the keeper of ring 0 hands out its chapter
 //! c 0                  one take of ring 0: `take 0 busy`
 //! ```
 #![tactic(auto)]

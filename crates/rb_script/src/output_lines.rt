@@ -1,4 +1,4 @@
-//! The lines that are written of a script's turns, and of the world at the end.
+//! The output lines of a script's turns, and of the world at the end.
 
 ghost use Rattle.std.specs.Prelude.{◌≡◌, ◌<◌, ◌^◌, ◌++◌, OnOk, length};
 ghost use Rattle.std.specs.Fmt.{decimal};
@@ -10,7 +10,7 @@ use rb_history::{Counts, Taken};
 use rb_lend::{Lent, Sheet};
 use std::alloc::AllocError;
 
-// Adds the line of a take of the ring of this number.
+// Appends the line of a take.
 pub(crate) fn push_take(text: &mut Vec<u8>, ring: u32, found: &Taken) -> Result<(), AllocError>
     ensures line { OnOk result (text.new.items ≡ text.old.items ++ take_line ring found.now) }
 {
@@ -20,7 +20,7 @@ pub(crate) fn push_take(text: &mut Vec<u8>, ring: u32, found: &Taken) -> Result<
     text.extend_from_slice(b"\n")
 }
 
-// Adds what a take found.
+// Appends what a take found.
 fn push_found(text: &mut Vec<u8>, found: &Taken) -> Result<(), AllocError>
     ensures text { OnOk result (text.new.items ≡ text.old.items ++ found_text found.now) }
 {
@@ -41,7 +41,7 @@ fn push_found(text: &mut Vec<u8>, found: &Taken) -> Result<(), AllocError>
     }
 }
 
-// Adds where a record stands, and whose it is.
+// Appends a record's position, worker and serial.
 fn push_grant(text: &mut Vec<u8>, pos: u64, worker: u32, serial: u64) -> Result<(), AllocError>
     ensures text { OnOk result (text.new.items ≡ text.old.items ++ grant_text pos worker serial) }
 {
@@ -53,7 +53,7 @@ fn push_grant(text: &mut Vec<u8>, pos: u64, worker: u32, serial: u64) -> Result<
     push_number(text, serial)
 }
 
-// Adds the length of a record and its bytes.
+// Appends a record's length and bytes.
 fn push_bytes(text: &mut Vec<u8>, sheet: &Sheet) -> Result<(), AllocError>
     ensures text { OnOk result (text.new.items ≡ text.old.items ++ record_text sheet.now) }
 {
@@ -64,7 +64,7 @@ fn push_bytes(text: &mut Vec<u8>, sheet: &Sheet) -> Result<(), AllocError>
     push_hex(text, sheet.bytes())
 }
 
-// Adds the line of a chapter that the ring of this number handed out.
+// Appends the line of a chapter that a ring handed out.
 pub(crate) fn push_chapter(text: &mut Vec<u8>, ring: u32, number: u64) -> Result<(), AllocError>
     ensures line { OnOk result (text.new.items ≡ text.old.items ++ chapter_line ring number) }
 {
@@ -75,7 +75,7 @@ pub(crate) fn push_chapter(text: &mut Vec<u8>, ring: u32, number: u64) -> Result
     text.extend_from_slice(b"\n")
 }
 
-// Adds the line of a worker whose program ended with a value.
+// Appends the line of a worker whose program ended with `value`.
 pub(crate) fn push_done(text: &mut Vec<u8>, worker: u32, value: u64) -> Result<(), AllocError>
     ensures line { OnOk result (text.new.items ≡ text.old.items ++ done_line worker value) }
 {
@@ -86,7 +86,7 @@ pub(crate) fn push_done(text: &mut Vec<u8>, worker: u32, value: u64) -> Result<(
     text.extend_from_slice(b"\n")
 }
 
-// Adds the line of a worker that runs, at its next unit.
+// Appends the line of a running worker, with its next unit.
 pub(crate) fn push_at(text: &mut Vec<u8>, worker: u32, unit: u32) -> Result<(), AllocError>
     ensures line { OnOk result (text.new.items ≡ text.old.items ++ at_line worker unit) }
 {
@@ -97,7 +97,7 @@ pub(crate) fn push_at(text: &mut Vec<u8>, worker: u32, unit: u32) -> Result<(), 
     text.extend_from_slice(b"\n")
 }
 
-// Adds the line of a ring: its positions, and its counts.
+// Appends the line of a ring: its positions and its counts.
 pub(crate) fn push_ring(
     text: &mut Vec<u8>,
     ring: u32,
@@ -117,7 +117,7 @@ pub(crate) fn push_ring(
     text.extend_from_slice(b"\n")
 }
 
-// Adds the counts of a ring.
+// Appends the counts of a ring.
 fn push_counts(text: &mut Vec<u8>, counts: Counts) -> Result<(), AllocError>
     ensures text { OnOk result (text.new.items ≡ text.old.items ++ counts_text counts) }
 {
@@ -131,7 +131,7 @@ fn push_counts(text: &mut Vec<u8>, counts: Counts) -> Result<(), AllocError>
     push_number(text, counts.busy)
 }
 
-// Adds a number in decimal digits.
+// Appends a number in decimal digits.
 pub(crate) fn push_number(text: &mut Vec<u8>, number: u64) -> Result<(), AllocError>
     ensures digits { OnOk result (text.new.items ≡ text.old.items ++ decimal number) }
 {
@@ -139,7 +139,7 @@ pub(crate) fn push_number(text: &mut Vec<u8>, number: u64) -> Result<(), AllocEr
     text.extend_from_slice(digits.format(number).as_bytes())
 }
 
-// Adds bytes in hex; `-` where there are none.
+// Appends bytes in hex, or `-` if there are none.
 fn push_hex(text: &mut Vec<u8>, bytes: &[u8]) -> Result<(), AllocError>
     requires short { length bytes.now < 2 ^ 32 }
     ensures hex { OnOk result (text.new.items ≡ text.old.items ++ hex_text bytes.now) }

@@ -12,8 +12,8 @@ use rb_program::{ShapeFaultKind, TextFault, from_text, shape};
 use rb_verifier::{Refusal, Verified, verify};
 use std::alloc::Global;
 
-// The program of each worker, verified for so many rings and the length of the worker's context. The fault is that of the first one that
-// is refused.
+// Returns each worker's program, verified for this number of rings and the length of the worker's context. Otherwise
+// reports the first worker whose program is refused.
 pub(crate) fn programs_of(
     alloc: Global,
     workers: &[ScriptWorker<'_>],
@@ -43,7 +43,7 @@ fn program_of(
     ensures program { IfOk result (λ program. IsWorkersProgram rings (worker_text worker.now) program) }
     ensures fault { IfErr result (IsFaultUnless worker.now.line (HasProgram rings (worker_text worker.now))) }
 {
-    // Beyond these no program is verified.
+    // No program is verified beyond these limits.
     if rings > 16 || worker.context.len() > 65_536 {
         return Err(ScriptFault::Line(worker.line));
     }

@@ -1,4 +1,4 @@
-//! Why a line of a script is refused, in words for people.
+//! Messages that explain why a line of a script is refused.
 
 use crate::script::first_line;
 use crate::script_line::{ScriptLine, line_of};
@@ -6,7 +6,7 @@ use rb_loader::{Bounds, accept};
 use rb_world::Actor;
 use std::alloc::{AllocError, Global};
 
-// What the lines in front of a line have.
+// The numbers of rings, workers and turns in the lines before a line.
 #[derive(Clone, Copy, Default)]
 struct EarlierLines {
     rings: u64,
@@ -14,8 +14,8 @@ struct EarlierLines {
     turns: u64,
 }
 
-/// Says what was expected at a line of a script, counted from 1, that was refused: its form and bounds, or where it may stand, or why its program
-/// is refused. It is for people, and tests show what it says.
+/// Returns a message that explains why a line of a script (counted from 1) was refused: its form and bounds, its place,
+/// or the reason why its program was refused. The message is meant for people; tests check it.
 pub fn line_reason(alloc: Global, script: &[u8], line: usize) -> Result<String, AllocError> {
     let mut front = EarlierLines::default();
     let mut rest = script;
@@ -35,7 +35,7 @@ pub fn line_reason(alloc: Global, script: &[u8], line: usize) -> Result<String, 
 }
 
 impl EarlierLines {
-    // The same with one line more.
+    // Counts one more line.
     fn add(&mut self, line: Option<ScriptLine<'_>>) {
         match line {
             Some(ScriptLine::Ring(_)) => self.rings = self.rings.saturating_add(1),
@@ -46,7 +46,7 @@ impl EarlierLines {
     }
 }
 
-// How many rings these lines have.
+// Returns the number of rings in these lines.
 fn rings_in(lines: &[u8]) -> u64 {
     let mut found = EarlierLines::default();
     let mut rest = lines;
@@ -61,7 +61,7 @@ fn rings_in(lines: &[u8]) -> u64 {
     found.rings
 }
 
-// Why this line is refused behind those, in a script with so many rings.
+// Returns why this line is refused after the earlier lines, in a script with this number of rings.
 fn reason_at(
     alloc: Global,
     front: &EarlierLines,
@@ -87,7 +87,7 @@ fn reason_at(
     }
 }
 
-// Why a worker's line is refused.
+// Returns why a worker's line is refused.
 fn worker_reason(
     alloc: Global,
     rings: u64,
@@ -115,7 +115,7 @@ fn worker_reason(
     }
 }
 
-// Why a line of turns is refused.
+// Returns why a line of turns is refused.
 fn turns_reason(
     alloc: Global,
     front: &EarlierLines,
@@ -144,7 +144,7 @@ fn turns_reason(
     format!(in alloc; "line {line}: {count} turns, and a script has 1 to 1000000 in all")
 }
 
-// What a line with these first letters has to be.
+// Returns the form required of a line that begins with these letters.
 fn form_of(bytes: &[u8]) -> &'static str {
     if bytes.starts_with(b"ring") {
         "expected `ring SIZE START` or `ring SIZE START ROOM`: a power of two from 4096 to 67108864, a multiple of 8 up to 2305843009213693952, and 8 to 1048576"

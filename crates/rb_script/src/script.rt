@@ -12,7 +12,7 @@ use hex::FromHexError;
 use rb_world::{Actor, RingSetup};
 use std::alloc::Global;
 
-// How many turns a script may have.
+// The maximum number of turns of a script.
 const TURNS: u64 = 1_000_000;
 
 /// A worker of a script.
@@ -20,38 +20,39 @@ const TURNS: u64 = 1_000_000;
 pub struct ScriptWorker<'a> {
     /// The number of its line, counted from 1.
     pub line: usize,
-    /// Its program in hex.
+    /// Its program, in hex.
     pub program: &'a str,
     /// The bytes of its context.
     pub context: Vec<u8>,
 }
 
-/// A script that was read: rings, workers whose programs are still text, and the turns that they take.
+/// A script that was read: its rings, its workers (their programs are still text), and their turns.
 #[derive(Drop)]
 pub struct Script<'a> {
     /// The rings, in the order of their lines.
     pub rings: Vec<RingSetup>,
     /// The workers, in the order of their lines.
     pub workers: Vec<ScriptWorker<'a>>,
-    /// Whose the turns are, one after the other.
+    /// The actors whose turns they are, in order.
     pub actors: Vec<Actor>,
 }
 
 impl<'a> Script<'a> {
-    /// Reads a whole script. Each line ends by a line feed, which the last one need not have. The fault is that of the first line that
-    /// is no line of a script or may not stand there: rings and workers stand before the first turn, at most 16 rings and 256 workers, and
-    /// at least one worker; a turn is that of a worker or a ring that is there; and there are 1,000,000 turns at most. Out of memory may
-    /// come in place of any other answer.
+    /// Reads a whole script. Each line ends with a line feed, which is optional for the last one.
+    ///
+    /// Reports the first line that is not a line of a script or is not allowed there. Rings and workers come before the
+    /// first turn. There are at most 16 rings, 1 to 256 workers, and at most 1,000,000 turns, each of an existing
+    /// worker or ring. `Memory` can be returned instead of any other result.
     pub fn read(alloc: Global, input: &'a [u8]) -> Result<Script<'a>, ScriptFault>
         ensures limits { IfOk result IsWithinLimits }
         ensures worker { IfOk result HasWorker }
         ensures runs { IfOk result MayRunScript }
 
-        // The script is what the lines say, and there is one exactly where each line is one of a script.
+        // The script is what the lines say. It exists if and only if each line is a line of a script.
         ensures script { IfOk result (λ s. StandFor (lines_of input.now) s) }
         ensures only_script { IsScript (lines_of input.now) → IfErr result (λ fault. fault ≡ ScriptFault.Memory) }
 
-        // The fault is that of the first line at fault, and of no other.
+        // The fault is that of the first line at fault.
         ensures fault { IfErr result (λ fault. IsFaultOf (lines_of input.now) fault) }
         ensures only_fault { (line : ℕ) → IsFirstFault (lines_of input.now) line
             → (result ≡ Err (ScriptFault.Line line)) ⊎ (result ≡ Err ScriptFault.Memory) }
@@ -173,7 +174,7 @@ impl<'a> Script<'a> {
     }
 }
 
-// The first line of a text that is not empty, and what stands behind it.
+// Returns the first line of a text that is not empty, and the text after it.
 pub(crate) fn first_line(text: &[u8]) -> (&[u8], &[u8])
     requires some { 1 ≤ length text.now }
     ensures parted { lines_of text.now ≡ result.0.now ∷ lines_of result.1.now }
@@ -185,7 +186,7 @@ pub(crate) fn first_line(text: &[u8]) -> (&[u8], &[u8])
     }
 }
 
-// Where the first line feed stands.
+// Returns the position of the first line feed.
 fn line_end(text: &[u8]) -> Option<usize>
     ensures { result ≡ position (λ byte. byte == 10) text.now }
 {

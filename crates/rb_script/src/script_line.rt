@@ -11,7 +11,7 @@ ghost use Rattle.rb_script.specs.inner.ScriptRead.{AreNumbersOf, IsWorkerText, I
 use rb_history::{is_size, is_start};
 use rb_world::{Actor, RingSetup};
 
-// The room of a ring's chapters where a script names none.
+// The default room of a ring's chapters.
 const ROOM: u64 = 65_536;
 
 // One line of a script.
@@ -19,13 +19,13 @@ const ROOM: u64 = 65_536;
 pub(crate) enum ScriptLine<'a> {
     // A ring.
     Ring(RingSetup),
-    // A worker: the hex of its program and of its context.
+    // A worker: its program and its context, in hex.
     Worker(&'a str, &'a str),
-    // So many turns of an actor.
+    // This many turns of an actor.
     Turns(Actor, u64),
 }
 
-// The line that these bytes are, and none where they are no line of a script, or one with a number out of its bounds.
+// Returns the line that these bytes form, or `None` if they form none or a number is out of its bounds.
 pub(crate) fn line_of(bytes: &[u8]) -> Option<ScriptLine<'_>>
     ensures line { MatchOption result (IsNoLine bytes.now) (λ line. IsLine bytes.now line) }
 {
@@ -41,7 +41,7 @@ pub(crate) fn line_of(bytes: &[u8]) -> Option<ScriptLine<'_>>
     line_with(word, words)
 }
 
-// The line of this word in front, and the words behind it.
+// Returns the line with this keyword and these words after it.
 fn line_with<'a>(word: &str, words: &'a str) -> Option<ScriptLine<'a>>
     ensures line { MatchOption result
         (SaysNone (word.now ∷ words_of words.now)) (λ line. IsSaid (word.now ∷ words_of words.now) line) }
@@ -79,14 +79,14 @@ fn line_with<'a>(word: &str, words: &'a str) -> Option<ScriptLine<'a>>
     None
 }
 
-// Whether all bytes are ASCII, and none is white space but the space.
+// Whether all bytes are ASCII, with no white space other than spaces.
 fn is_plain(bytes: &[u8]) -> bool
     ensures { IsTrue result ↔ AllPass is_plain_byte bytes.now }
 {
     bytes.iter().all(|byte| byte.is_ascii() && (*byte == b' ' || !byte.is_ascii_whitespace()))
 }
 
-// A ring: its size, its start, and the room of its chapters where that is given.
+// Parses a ring: its size, its start, and optionally the room of its chapters.
 fn ring_of(words: &str) -> Option<RingSetup>
     ensures ring { MatchOption result
         ((setup : RingSetup) → SaysRing (words_of words.now) setup → IsRingSetup setup → IsChapterRoom setup.room → ⊥)
@@ -101,7 +101,7 @@ fn ring_of(words: &str) -> Option<RingSetup>
     }
 }
 
-// The ring of these numbers, where each is there and within its bounds.
+// Returns the ring with these numbers, if all are present and within their bounds.
 fn setup_of(size: Option<u64>, start: Option<u64>, room: Option<u64>) -> Option<RingSetup>
     ensures ring { MatchOption result
         ((setup : RingSetup) → AreNumbersOf size start room setup → ⊥)
@@ -120,7 +120,7 @@ fn setup_of(size: Option<u64>, start: Option<u64>, room: Option<u64>) -> Option<
     })
 }
 
-// A worker: the hex of its program, and that of its context where it has one.
+// Splits a worker into its program's hex and its context's hex, which may be absent.
 fn worker_of(words: &str) -> Option<(&str, &str)>
     ensures worker { MatchOption result
         ((program context : List ℕ) → SaysWorker (words_of words.now) program context → ⊥)
@@ -141,7 +141,7 @@ fn worker_of(words: &str) -> Option<(&str, &str)>
     Some((program, context))
 }
 
-// The number of a worker or a ring, and of how many turns, one where none is given.
+// Parses the number of a worker or a ring, and the number of turns (default: one).
 fn turns_of(words: &str) -> Option<(u32, u64)>
     ensures turns { MatchOption result
         ((number count : ℕ) → SaysTurns (words_of words.now) number count → number < 2 ^ 32 → count < 2 ^ 64 → ⊥)
@@ -159,7 +159,7 @@ fn turns_of(words: &str) -> Option<(u32, u64)>
     Some((number, count))
 }
 
-// The number of a worker or a ring.
+// Parses the number of a worker or a ring.
 fn number_of(word: &str) -> Option<u32>
     ensures number { MatchOption result
         ((number : ℕ) → SpellsNumber word.now number → number < 2 ^ 32 → ⊥)
@@ -169,7 +169,7 @@ fn number_of(word: &str) -> Option<u32>
     u32::try_from(number).ok()
 }
 
-// The number that decimal digits spell, if it is below 2^64. `parse` alone would take a plus in front.
+// Parses decimal digits as a number below 2^64. `parse` alone would accept a leading plus sign.
 fn decimal(text: &str) -> Option<u64>
     ensures number { MatchOption result
         ((number : ℕ) → SpellsNumber text.now number → number < 2 ^ 64 → ⊥)

@@ -1,4 +1,4 @@
-//! The command `sim`: a script of a world in, the lines of its turns out.
+//! The command `sim`: reads a script of a world and writes the lines of its turns.
 
 ghost use Rattle.std.specs.Prelude.{◌≡◌, ◌⊎◌, ℕ, Err, IfErr, IfSome, OnOk};
 ghost use Rattle.std.specs.Io.KnownBytes.{Appends, Keeps};
@@ -16,10 +16,10 @@ use thiserror::Error;
 /// Why a script was not run to its end.
 #[derive(Clone, Copy, Debug, PartialEq, Eq, Error)]
 pub enum SimFault {
-    /// The line of this number, counted from 1, is at fault, or its program is refused.
+    /// The line with this number, counted from 1, is at fault, or its program is refused.
     #[error("line {0}")]
     Line(usize),
-    /// Out of memory.
+    /// Memory could not be allocated.
     #[error("memory")]
     Memory,
     /// A read or a write failed.
@@ -27,10 +27,12 @@ pub enum SimFault {
     Device,
 }
 
-/// Reads a whole script, verifies its programs, runs its turns in a world, and prints a line for each take and each chapter, and then for
-/// each worker and each ring; with `draw` behind each turn each ring as one line. Nothing is printed where a line is at fault or a program is refused, and that is told, unless memory runs out or
-/// the device fails; where memory runs out, the lines of the turns before are printed, and nothing else.
-/// The watch is called behind each turn.
+/// Reads a whole script, verifies its programs and runs its turns in a world. Prints a line for each take and each
+/// chapter, and at the end a line for each worker and each ring. With `draw`, also draws each ring on a line after each
+/// turn. Calls the watch after each turn.
+///
+/// If a line is at fault or a program is refused, returns its number and prints nothing, unless memory runs out or the
+/// device fails. If memory runs out, prints the lines of the turns made so far and nothing else.
 pub fn sim<R: Read, W: Write, V: TurnWatch>(
     alloc: Global,
     input: &mut R,
@@ -52,7 +54,7 @@ pub fn sim<R: Read, W: Write, V: TurnWatch>(
     sim_text(alloc, bytes.as_slice(), out, draw, watch)
 }
 
-// The same with the text that was read.
+// Runs the script in `text`, as `sim` does.
 fn sim_text<W: Write, V: TurnWatch>(
     alloc: Global,
     text: &[u8],
@@ -83,7 +85,7 @@ fn sim_text<W: Write, V: TurnWatch>(
     print(out, ends.as_slice())
 }
 
-// Prints the lines of the turns before memory ran out, and answers that it did, or that they could not be printed.
+// Prints the lines of the turns before memory ran out. Returns `Memory`, or `Device` if they could not be printed.
 fn print_beginning<W: Write>(out: &mut W, lines: &[u8]) -> SimFault
     ensures printed { result ≡ SimFault.Memory → Appends (W.contents out.old) (W.contents out.new) lines.now }
     ensures fault { (result ≡ SimFault.Memory) ⊎ (result ≡ SimFault.Device) }

@@ -1,4 +1,4 @@
-//! A script's turns, and what is written of them.
+//! Runs a script's turns and writes their lines.
 
 ghost use Rattle.std.specs.Prelude.{◌≡◌, ◌≤◌, ◌⊎◌, ◌++◌, ℕ, All, length, map, Err, IfOk, IfErr, OnOk, OnErr};
 ghost use Rattle.rb_world.specs.WorldValue.{IsThere, world_of};
@@ -21,9 +21,12 @@ use rb_world::{Actor, TurnDone, WorkerSetup, World, WorldOpenFault};
 use std::alloc::{AllocError, Global};
 
 impl<'a> Script<'a> {
-    /// Verifies the script's programs, runs its turns, adds a line to the text for each take and each chapter, and with `draw` the rings behind each turn, and answers the lines of the
-    /// workers and the rings at the end. A refused program is told by its line, and nothing is run or written then; where memory runs out,
-    /// the lines of the turns before stand, whole, and nothing else. A script that was read may be run. The watch is called behind each turn.
+    /// Verifies the script's programs and runs its turns. Appends a line to the text for each take and each chapter
+    /// and, with `draw`, the drawings of the rings after each turn. Returns the lines of the workers and rings at the
+    /// end. Calls the watch after each turn.
+    ///
+    /// If a program is refused, returns its line; nothing is run or written. If memory runs out, the text ends with the
+    /// whole lines of the turns made so far. Every script that was read can be run.
     pub fn simulate<V: TurnWatch>(
         &self,
         alloc: Global,
@@ -49,7 +52,7 @@ impl<'a> Script<'a> {
         }
     }
 
-    // The same, with the program of each worker.
+    // Runs the script with each worker's program.
     fn simulate_with<V: TurnWatch>(
         &self,
         alloc: Global,
@@ -73,7 +76,7 @@ impl<'a> Script<'a> {
     }
 }
 
-// A world that may be opened is refused for memory alone.
+// Opening a world for a script that was read can fail only for memory.
 fn want_of_memory(fault: WorldOpenFault) -> AllocError
     requires memory { fault ≡ WorldOpenFault.Memory }
 {
@@ -83,7 +86,7 @@ fn want_of_memory(fault: WorldOpenFault) -> AllocError
     }
 }
 
-// The workers with their programs.
+// Returns the workers with their programs.
 fn setups_of<'p>(
     alloc: Global,
     workers: &'p [ScriptWorker<'_>],
@@ -103,7 +106,7 @@ fn setups_of<'p>(
     Ok(setups)
 }
 
-// Runs the turns, and adds their lines. Where memory runs out, the lines of the turns before stand.
+// Runs the turns and appends their lines. If memory runs out, the lines of the earlier turns remain.
 fn run<V: TurnWatch>(
     alloc: Global,
     world: &mut World<'_>,
@@ -137,7 +140,7 @@ fn run<V: TurnWatch>(
     Ok(())
 }
 
-// Adds the line of a turn that was just made, if it has one, and the drawings of the rings, where they are asked for.
+// Appends the line of a turn that was just made, if it has one, and the drawings of the rings if `draw` is set.
 fn push_drawn_turn(
     world: &World<'_>,
     actor: Actor,
@@ -157,7 +160,7 @@ fn push_drawn_turn(
     }
 }
 
-// Adds the line of a turn that was just made, if it has one.
+// Appends the line of a turn that was just made, if it has one.
 fn push_turn(
     world: &World<'_>,
     actor: Actor,
@@ -174,7 +177,7 @@ fn push_turn(
     }
 }
 
-// Adds the line of a consumer's turn behind which these were taken.
+// Appends the line of a consumer's turn, from what was taken up to then.
 fn push_consumer(
     r: u32,
     done: TurnDone,
@@ -191,7 +194,7 @@ fn push_consumer(
     }
 }
 
-// Adds the line of the last that was taken.
+// Appends the line of the last record taken.
 fn push_last(r: u32, taken: &[Taken], text: &mut Vec<u8>) -> Result<(), AllocError>
     ensures line { OnOk result (text.new.items ≡ text.old.items ++ last_line r taken.now) }
 {
@@ -201,7 +204,7 @@ fn push_last(r: u32, taken: &[Taken], text: &mut Vec<u8>) -> Result<(), AllocErr
     }
 }
 
-// Adds the line of a keeper's turn.
+// Appends the line of a keeper's turn.
 fn push_keeper(r: u32, done: TurnDone, text: &mut Vec<u8>) -> Result<(), AllocError>
     ensures line { OnOk result (text.new.items ≡ text.old.items ++ keeper_text r done) }
 {
@@ -211,7 +214,7 @@ fn push_keeper(r: u32, done: TurnDone, text: &mut Vec<u8>) -> Result<(), AllocEr
     }
 }
 
-// The lines of the workers and of the rings.
+// Returns the lines of the workers and the rings.
 fn ends_of(alloc: Global, world: &World<'_>) -> Result<Vec<u8>, AllocError>
     requires workers { length world.now.machines ≤ 256 }
     requires rings { length world.now.rings ≤ 16 }
@@ -223,7 +226,7 @@ fn ends_of(alloc: Global, world: &World<'_>) -> Result<Vec<u8>, AllocError>
     Ok(ends)
 }
 
-// Adds the drawings of the rings.
+// Appends the drawings of the rings.
 fn push_drawings(world: &World<'_>, text: &mut Vec<u8>) -> Result<(), AllocError>
     requires few { length world.now.rings ≤ 16 }
     ensures lines { OnOk result (text.new.items ≡ text.old.items ++ lines_below (drawing_of world.now) (length world.now.rings)) }
@@ -237,7 +240,7 @@ fn push_drawings(world: &World<'_>, text: &mut Vec<u8>) -> Result<(), AllocError
     Ok(())
 }
 
-// Adds the drawing of a ring.
+// Appends the drawing of a ring.
 fn push_ring_drawing(world: &World<'_>, r: u32, text: &mut Vec<u8>) -> Result<(), AllocError>
     requires there { IsThere world.now (Consumer r) }
     ensures line { OnOk result (text.new.items ≡ text.old.items ++ drawing_of world.now r) }
@@ -246,7 +249,7 @@ fn push_ring_drawing(world: &World<'_>, r: u32, text: &mut Vec<u8>) -> Result<()
     push_drawing(text, r, closing)
 }
 
-// Adds the lines of the workers.
+// Appends the lines of the workers.
 fn push_workers(world: &World<'_>, text: &mut Vec<u8>) -> Result<(), AllocError>
     requires workers { length world.now.machines ≤ 256 }
     ensures lines { OnOk result (text.new.items ≡ text.old.items ++ lines_below (worker_line world.now) (length world.now.machines)) }
@@ -260,7 +263,7 @@ fn push_workers(world: &World<'_>, text: &mut Vec<u8>) -> Result<(), AllocError>
     Ok(())
 }
 
-// Adds the lines of the rings.
+// Appends the lines of the rings.
 fn push_rings(world: &World<'_>, text: &mut Vec<u8>) -> Result<(), AllocError>
     requires rings { length world.now.rings ≤ 16 }
     ensures lines { OnOk result (text.new.items ≡ text.old.items ++ lines_below (ring_end_of world.now) (length world.now.rings)) }
@@ -274,7 +277,7 @@ fn push_rings(world: &World<'_>, text: &mut Vec<u8>) -> Result<(), AllocError>
     Ok(())
 }
 
-// Adds the line of a worker.
+// Appends the line of a worker.
 fn push_worker(world: &World<'_>, w: u32, text: &mut Vec<u8>) -> Result<(), AllocError>
     requires there { IsThere world.now (Worker w) }
     ensures line { OnOk result (text.new.items ≡ text.old.items ++ worker_line world.now w) }
@@ -286,7 +289,7 @@ fn push_worker(world: &World<'_>, w: u32, text: &mut Vec<u8>) -> Result<(), Allo
     }
 }
 
-// Adds the line of a ring.
+// Appends the line of a ring.
 fn push_ring_end(world: &World<'_>, r: u32, text: &mut Vec<u8>) -> Result<(), AllocError>
     requires there { IsThere world.now (Consumer r) }
     ensures line { OnOk result (text.new.items ≡ text.old.items ++ ring_end_of world.now r) }

@@ -1,12 +1,13 @@
-//! Who is told of a script's turns.
+//! An observer of a script's progress.
 
-/// Is told how far a script is.
+/// Observes the progress of a script.
 pub trait TurnWatch {
-    /// Is called behind each turn that was made and whose lines were added, with the number of all turns. Nothing is promised of what it does.
+    /// Called after each turn, once its lines were appended, with the total number of turns. Nothing is promised about
+    /// what it does.
     fn turned(&self, all: usize);
 }
 
-/// Tells nobody.
+/// A watch that does nothing.
 pub struct NoWatch;
 
 impl TurnWatch for NoWatch {

@@ -55,7 +55,7 @@ pub record IsInside (m : Memory) (place : MemoryRegion) (z : ℤ) (len : ℕ) : 
 pub fits : (at len : ℕ) (bytes : List ℕ) → at + len ≤ length bytes → nat_le (at + len) (length bytes) ≡ true
 fits at len bytes h = grind (arith, nat_tests)
 
--- a range that lies inside is read, where none of its bytes is a pointer's
+-- a range that lies inside a part is read, if none of its bytes belongs to a pointer
 read_there : (m : Memory) (place : MemoryRegion) (offset by : ℤ) (len : ℕ) (v : Value) → v ≡ Pointer place offset → (i : IsInside m place (offset +ℤ by) len) → is_pointer_among i.range.at len (part_pointers m place) ≡ false
     → pointed m v by len ≡ Some (take len (drop i.range.at i.bytes))
 read_there m place offset by len v points i plain = rw (points, i.there, i.range.byte_at, plain, fits i.range.at len i.bytes i.range.fits) refl
@@ -106,14 +106,14 @@ data_number (abs.Ring n) e = absurd (cc)
 data_number (abs.Perhaps n) e = absurd (cc)
 data_number (abs.Record n o) e = absurd (cc)
 
--- a pointer that a place keeps is no number
+-- a pointer that a place holds is not a number
 pub kept_apart : (rings : ℕ) (v : Value) → IsKeptPointer rings v → (n : ℕ) × (v ≡ Number n) → ⊥
 kept_apart rings Nothing k n = k
 kept_apart rings (Number m) k n = k
 kept_apart rings (Pointer part o) k n = let e : Pointer part o ≡ Number n.0 = n.1 in cc
 kept_apart rings (Ring ring) k n = let e : Ring ring ≡ Number n.0 = n.1 in cc
 
--- a place that has data keeps none
+-- a place that has data holds no pointer
 kept_none : (rings : ℕ) (rs : List (ℕ × List ℕ)) (x : Abs) (o : Option Value) (bytes : List ℕ) → is_data x ≡ true → AgreesValue rs x (loaded_value o bytes) → ((v : Value) → o ≡ Some v → IsKeptPointer rings v) → o ≡ None
 kept_none rings rs x None bytes d h k = refl
 kept_none rings rs x (Some v) bytes d h k = absurd (kept_apart rings v (k v refl) (number_value rs x v (data_number x d) h))
@@ -168,7 +168,7 @@ module _ (subject : Subject) (a : AbsState) (s : State) (g : Agrees subject a s)
   context_inside : (z : ℤ) (len : ℕ) → contains_range (extent_from_zero subject.ctx_len) z len ≡ true → IsInside s.memory Context z len
   context_inside z len h = record { bytes = s.memory.context; there = refl; range = from_zero z len (length s.memory.context) (subst (λ n. contains_range (extent_from_zero n) z len ≡ true) (sym g.context) h) }
 
-  -- the range of the stack that a check lets through
+  -- a range of the stack that passes a check
   pub stack_range : (z : ℤ) (len : ℕ) → contains_range stack_extent z len ≡ true → IsRange (stack_byte z) len (length s.memory.stack)
   stack_range z len h = subst (IsRange (stack_byte z) len) (sym g.stack) (in_stack z len h)
 
@@ -178,7 +178,7 @@ module _ (subject : Subject) (a : AbsState) (s : State) (g : Agrees subject a s)
   ends_inside : (at len : ℕ) → at + len ≤ length s.memory.stack → at + len ≤ 512
   ends_inside at len h = let long : length s.memory.stack ≡ 512 = g.stack in omega arith
 
-  -- bytes that are known to be data are no pointer's
+  -- bytes that are known to be data belong to no pointer
   pub data_plain : (at len : ℕ) → at + len ≤ length s.memory.stack → may_keep at len (known_in a.places) ≡ false → is_pointer_among at len s.memory.pointers ≡ false
   data_plain at len le e =
       among_none at len s.memory.pointers (λ place t.
@@ -187,7 +187,7 @@ module _ (subject : Subject) (a : AbsState) (s : State) (g : Agrees subject a s)
       let number : is_data (known_in a.places place) ≡ true = not_false _ (rw t at no) in
       kept_none subject.rings s.memory.records (known_in a.places place) (pointer_at place s.memory.pointers) (take 8 (drop (8 * place) s.memory.stack)) number (g.places.values place lt) (g.places.pointers place))
 
-  -- a place without a pointer has none among its bytes
+  -- no byte of a place without a pointer belongs to a pointer
   place_plain : (place : ℕ) → pointer_at place s.memory.pointers ≡ None → is_pointer_among (8 * place) 8 s.memory.pointers ≡ false
   place_plain place e =
       among_none (8 * place) 8 s.memory.pointers (λ other t. elim (eq_cases other place) [
@@ -195,7 +195,7 @@ module _ (subject : Subject) (a : AbsState) (s : State) (g : Agrees subject a s)
         | inr k ↦ absurd (let f = other_touched place other k.1 in cc)
       ])
 
-  -- data that a value reaches is read
+  -- data that a pointer reaches is read
   pub value_read : (x : Abs) (v : Value) (by : ℤ) (len : ℕ) (unit : Unit {0}) → reaches (limits_of subject) a.held x by len ≡ true → AgreesValue s.memory.records x v → HasReference a.held x → check_data (byte_behind x by) len (known_in a.places) ≡ Ok unit → (b : List ℕ) × (pointed s.memory v by len ≡ Some b)
   value_read (abs.Ctx o) v by len unit h k t d = (_, read_there s.memory Context o by len v k (context_inside (o +ℤ by) len h) refl)
   value_read (abs.Record id o) v by len unit h k t d = (_, read_there s.memory (Record id) o by len v k (record_inside id (o +ℤ by) len h t) refl)
@@ -221,7 +221,7 @@ module _ (subject : Subject) (a : AbsState) (s : State) (g : Agrees subject a s)
     pub bounded : IsBoundedValue subject.rings value
     pub gives : (insn : Insn) (dst : Reg) → Filled v by insn dst ≡ meaning.gives insn dst value s
 
-  -- no pointer is found, and data is read
+  -- a load finds no pointer, and reads data
   data_filled : (x : Abs) (v : Value) (by : ℤ) (y : Abs) → fill_of Double s.memory v by ≡ None → reaches (limits_of subject) a.held x by 8 ≡ true → AgreesValue s.memory.records x v → HasReference a.held x
       → (m : Result (Unit {0}) Rule) → check_data (byte_behind x by) 8 (known_in a.places) ≡ m → m >>= (λ _. Ok abs.Number) ≡ Ok y → IsFilled v by y
   data_filled x v by y none h k t (Ok unit) d e =
@@ -282,7 +282,7 @@ module _ (subject : Subject) (a : AbsState) (s : State) (g : Agrees subject a s)
   value_filled (abs.Ring n) v by y h k t e = absurd (cc)
   value_filled (abs.Perhaps n) v by y h k t e = absurd (cc)
 
--- where no pointer is kept, none is found
+-- if the stack holds no pointer, none is found
 pub no_fill : (size : Size) (m : Memory) (v : Value) (by : ℤ) → m.pointers ≡ [] → fill_of size m v by ≡ None
 no_fill Double m (Pointer part offset) by e = at_place (place_at part (offset +ℤ by))
   where
@@ -291,11 +291,11 @@ no_fill Double m (Pointer part offset) by e = at_place (place_at part (offset +�
     at_place (Some place) = ap (pointer_at place) e
 no_fill size m v by e = refl
 
--- the range of a check lies inside
+-- a range that passes a check lies inside its part
 pub inside_passed : (subject : Subject) (held : List Reference) (x : Abs) (by : ℤ) (len : ℕ) (unit : Unit {0}) → check_inside (limits_of subject) held x by len ≡ Ok unit → reaches (limits_of subject) held x by len ≡ true
 inside_passed subject held x by len unit e = not_false _ (passed (not (reaches (limits_of subject) held x by len)) rule.OutsidePart unit e)
 
--- what a load of data gives
+-- the result of a load of data
 loaded_data : (byte : Option ℕ) (len : ℕ) (places : KnownPlaces) (y : Abs) → ((at : ℕ) → whole_place at len ≡ None) → check_loaded byte len places ≡ Ok y → (unit : Unit {0}) × (check_data byte len places ≡ Ok unit) × (abs.Number ≡ y)
 loaded_data None len places y none e = (tt, refl, cc)
 loaded_data (Some at) len places y none e = of_check (check_data (Some at) len places) refl (rw (none at) at e)
@@ -311,7 +311,7 @@ module _ (subject : Subject) (s : State) (c : CanStep subject s) (insn : Insn) (
   abbrev Given : StepEffect → Result refs.Effect Rule → Type 0
   Given = Sound subject s c insn begins
 
-  -- a load of bytes that are no whole place
+  -- a load of bytes that are not a whole place
   pub loaded_sound : (dst base : Reg) (by : ℤ) (len : ℕ) (number_of : List ℕ → ℕ) → ((at : ℕ) → whole_place at len ≡ None) → Given (meaning.execute_load insn dst number_of (pointed s.memory (register s base.number) by len) s) (table.check_load (limits_of subject) dst base by len a)
   loaded_sound dst base by len number_of none =
       let x = value_in a base.number in

@@ -47,14 +47,14 @@ module _ (subject : Subject) (s : State) (c : CanStep subject s) (insn : Insn) (
   abbrev Given : StepEffect → Result refs.Effect Rule → Type 0
   Given = Sound subject s c insn begins
 
-  -- to the target
+  -- the jump's edge
   pub jumps_to : (e : refs.Effect) → Agrees subject e.jump s → Follows subject s c insn begins (goes_by_edge Target insn s) e
   jumps_to e agrees h =
       let to = jumps_land subject.program c.well_shaped s.unit insn distance begins jumps in
       goes_along subject s c insn begins Target e to.0 s.registers s.memory to.1 refl agrees h
 
   module _ (on : falls_through insn ≡ true) where
-    -- along either edge
+    -- either edge
     either : (edge : Edge) (e : refs.Effect) → Agrees subject (along_edge edge e) s → Follows subject s c insn begins (goes_by_edge edge insn s) e
     either Next e agrees h = goes_next subject s c insn begins e s.registers s.memory on refl agrees h
     either Target e agrees h = jumps_to e agrees h
@@ -63,7 +63,7 @@ module _ (subject : Subject) (s : State) (c : CanStep subject s) (insn : Insn) (
     same_along Next = c.agrees
     same_along Target = c.agrees
 
-    -- two numbers are compared
+    -- a comparison of two numbers
     numbers_compared : (test : Option Edge) (x y : Abs) (v w : Value) → ((n m : ℕ) → execute_compare insn test (Number n) (Number m) s ≡ goes_by_edge (edge_taken (jumps_of insn n m)) insn s) → AgreesValue s.memory.records x v → AgreesValue s.memory.records y w
         → Given (execute_compare insn test v w s) (check_readable x >>= (λ _. check_readable y >>= (λ _. check_number rule.PointerCompared x >>= (λ _. check_number rule.PointerCompared y >>= (λ _. Ok (effect_on_both a))))))
     numbers_compared test x y v w plain h k =
@@ -74,7 +74,7 @@ module _ (subject : Subject) (s : State) (c : CanStep subject s) (insn : Insn) (
         let same : execute_compare insn test v w s ≡ goes_by_edge (edge_taken (jumps_of insn n.0 m.0)) insn s = ap (λ v. execute_compare insn test v w s) n.1 ∙ ap (λ w. execute_compare insn test (Number n.0) w s) m.1 ∙ plain n.0 m.0 in
         subst (λ effect. Follows subject s c insn begins effect (effect_on_both a)) (sym same) (either (edge_taken (jumps_of insn n.0 m.0)) (effect_on_both a) (same_along (edge_taken (jumps_of insn n.0 m.0))))))))
 
-    -- a reservation is tested against null
+    -- a null test of a reservation
     perhaps_compared : (edge other : Edge) (id m : ℕ) (v : Value) (e : refs.Effect) (o : Option (List ℕ)) → record_named id s.memory.records ≡ o → v ≡ reserved_value id o → edge_taken (jumps_of insn 0 m) ≡ other
         → (o ≡ None → Agrees subject (along_edge other e) s) → ((b : List ℕ) → o ≡ Some b → Agrees subject (along_edge edge e) s) → Follows subject s c insn begins (execute_compare insn (Some edge) v (Number m) s) e
     perhaps_compared edge other id m v e None f h taken null there =

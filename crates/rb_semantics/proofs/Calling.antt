@@ -1,4 +1,4 @@
--- Calls are sound, and so is each answer.
+-- Calls are sound, and so are their answers.
 use Rattle.std.proofs.Common.{◌≡◌, ℕ, ◌+◌, ◌<◌, ℤ, pos, true, false, List, [], ◌∷◌, ◌++◌, Option, Some, None, length, find, replicate, sym, ap, subst, refl, arith, Result, Ok}
 use Rattle.std.specs.Ordering.{int_eq}
 use Rattle.std.proofs.lemmas.List.{length-replicate}
@@ -45,12 +45,12 @@ use Rattle.rb_semantics.proofs.Checks.{number_passed, ring_passed, size_passed, 
 use Rattle.rb_semantics.proofs.Accesses.{value_read, inside_passed}
 use Rattle.rb_semantics.proofs.Rows.{past, known, Follows, Sound, IsEffect, can_go}
 
--- the record of a reference that is sure
+-- the record of a reference that was tested
 record_there : (held : List Reference) (rs : List (ℕ × List ℕ)) (id : ℕ) (found : Option Reference) → find (has_id id) held ≡ found → IsTested true found → AreHeld held rs → (b : List ℕ) × (record_named id rs ≡ Some b)
 record_there held rs id None f t k = absurd t
 record_there held rs id (Some q) f t k = let b = held_found id held rs q f t k in (b.0, b.1)
 
--- which values the registers hold that a call reads
+-- the values of the registers that a call reads
 asks_reserve : (s : State) (v w x : Value) (ring len flags : ℕ) → v ≡ Ring ring → w ≡ Number len → x ≡ Number flags → call_reserve v w x s ≡ Some (Reserve s.unit ring len flags, waiting s)
 asks_reserve s v w x ring len flags e f g = rw (e, f, g) refl
 
@@ -68,7 +68,7 @@ pub resumes_is : (t u : State) → Resumes t ≡ Resumes u → t ≡ u
 resumes_is t u e = cc
 
 module _ (subject : Subject) (annotation : Annotation) where
-  -- a step that can be taken after each answer of the kind
+  -- the program can step after each answer of the right kind
   can_reserve : (len : ℕ) (w : State) → CanStepUnder subject annotation (with_answer (Pointer (Record w.unit) (pos 0)) (record w { memory = holding w.unit (replicate len 0) w.memory })) → CanStepUnder subject annotation (with_answer (Number 0) w) → CanAnswerUnder subject annotation (asked.Reserve len) w
   can_reserve len w h k Granted t e = subst (CanStepUnder subject annotation) (resumes_is _ _ e) h
   can_reserve len w h k Null t e = subst (CanStepUnder subject annotation) (resumes_is _ _ e) k
@@ -111,7 +111,7 @@ module _ (subject : Subject) (s : State) (c : CanStep subject s) (code : ℕ) (b
   abbrev Leads : StepEffect → refs.Effect → Type 0
   Leads = Follows subject s c (Call code) begins
 
-  -- what is known of an argument, and the argument
+  -- the abstract value of an argument, and its value
   abbrev arg : ℕ → Abs
   arg r = value_in a r
 
@@ -127,14 +127,14 @@ module _ (subject : Subject) (s : State) (c : CanStep subject s) (code : ℕ) (b
   number_held : (r : ℕ) (i : Unit {0}) → check_number rule.HelperArgument (arg r) ≡ Ok i → (n : ℕ) × (register s r ≡ Number n)
   number_held r i e = number_value s.memory.records (arg r) (register s r) (number_passed rule.HelperArgument (arg r) i e) (holds r)
 
-  -- the state after an answer can step
+  -- the program can step in the state after an answer
   answered_can_step : (known_then : AbsState) (m : Memory) (x : Abs) (v : Value) → IsEffect subject s c (Call code) begins (effect_on_both (table.after_answer x known_then)) → AgreesValue m.records x v → HasReference known_then.held x → IsBoundedValue subject.rings v → Agrees subject known_then (record s { memory = m })
       → CanStepUnder subject c.annotation (with_answer v (waiting (record s { memory = m })))
   answered_can_step known_then m x v h k t b g =
       can_go subject s c (Call code) begins Next (effect_on_both (table.after_answer x known_then)) (s.unit + 1) (with_answer v (waiting (record s { memory = m }))) (leads-goes_on s.unit (Call code) refl) h
       (agrees_answered subject known_then (record s { memory = m }) x v k t b g) refl
 
-  -- a call whose answer is a number
+  -- a call that returns a number
   number_answered : IsEffect subject s c (Call code) begins (effect_on_both (table.after_answer abs.Number a)) → (n : ℕ) → CanStepUnder subject c.annotation (with_answer (Number n) (waiting s))
   number_answered h n = answered_can_step a s.memory abs.Number (Number n) h (n, refl) tt tt c.agrees
 
@@ -159,7 +159,7 @@ module _ (subject : Subject) (s : State) (c : CanStep subject s) (code : ℕ) (b
       subst (λ call. Leads (waits_for call) (effect_on_both (table.after_answer abs.Number a))) (sym (asks_query s (register s 1) (register s 2) ring v2.0 v1 v2.1))
       (λ h. record { at_call = ap calls begins; here = refl; lawful = ring_known 1 ring v1; held = omega arith; next = can_query subject c.annotation (waiting s) (number_answered h) })))
 
-  -- a record that is granted, and null
+  -- a granted record, and null
   granted_can_step : (ring len : ℕ) → IsEffect subject s c (Call code) begins (effect_on_both (table.after_reserve s.unit ring len a)) → CanStepUnder subject c.annotation (with_answer (Pointer (Record s.unit) (pos 0)) (waiting (record s { memory = holding s.unit (replicate len 0) s.memory })))
   granted_can_step ring len h =
       let zeros : List ℕ = replicate len 0 in
@@ -189,7 +189,7 @@ module _ (subject : Subject) (s : State) (c : CanStep subject s) (code : ℕ) (b
       subst (λ call. Leads (waits_for call) (effect_on_both (table.after_reserve s.unit ring len a))) (sym (asks_reserve s (register s 1) (register s 2) (register s 3) ring len v3.0 v1 v2 v3.1))
       (λ h. record { at_call = ap calls begins; here = refl; lawful = (ring_known 1 ring v1, size.1); held = omega arith; next = can_reserve subject c.annotation len (waiting s) (granted_can_step ring len h) (null_can_step ring len h) })))))
 
-  -- a call that gives a record back
+  -- a call that submits or discards a record
   give_back_sound : (call : ℕ → List ℕ → ℕ → HelperCall) → ((id : ℕ) (b : List ℕ) (flags : ℕ) → IsLawful subject (call id b flags)) → ((id : ℕ) (b : List ℕ) (flags : ℕ) → pending_call_of (call id b flags) ≡ asked.GiveBack) → ((id : ℕ) (b : List ℕ) (flags : ℕ) → given_back_count (call id b flags ∷ []) ≡ 1)
       → Given (waits_for (call_give_back call (register s 1) (register s 2) s)) (table.check_give_back a)
   give_back_sound call lawful kind one =

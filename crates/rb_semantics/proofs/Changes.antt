@@ -1,4 +1,4 @@
--- A state is as is known of it, after each change.
+-- A state still agrees with its abstract state after each change.
 use Rattle.std.proofs.Common.{◌≡◌, ℕ, zero, suc, true, false, List, [], ◌∷◌, ◌++◌, Some, None, length, map, find, get_or, set, sym, ap, subst, ◌∙◌, refl, arith}
 use Rattle.std.proofs.lemmas.List.{length-set, length-map}
 use Rattle.rb_verifier.specs.declared.state.AbsState.{AbsState}
@@ -20,7 +20,7 @@ use Rattle.rb_semantics.proofs.Held.{held_null, held_there, held_without, held_p
 use Rattle.rb_semantics.proofs.Places.{places_below, places_null, places_there, places_given_back, places_granted, places_refused, places_written}
 use Rattle.rb_semantics.proofs.Values.{value_below, tied_below, value_pushed, tied_pushed, value_written, value_null, tied_null, value_there, tied_there, value_given_back, tied_given_back}
 
--- a relation of two lists, of which each element gets a value
+-- related lists stay related if both are set at the same index to related values
 set_related : (P : Abs → Value → Type 0) (xs : List Abs) (vs : List Value) (d : ℕ) (x : Abs) (v : Value) → length xs ≡ length vs → ((r : ℕ) → P (get_or xs r abs.Unreadable) (get_or vs r Nothing)) → P x v
     → (r : ℕ) → P (get_or (set xs d x) r abs.Unreadable) (get_or (set vs d v) r Nothing)
 set_related P [] [] d x v e all a r = all r
@@ -31,7 +31,7 @@ set_related P (y ∷ xs) (w ∷ vs) zero x v e all a (suc r) = all (suc r)
 set_related P (y ∷ xs) (w ∷ vs) (suc d) x v e all a zero = all 0
 set_related P (y ∷ xs) (w ∷ vs) (suc d) x v e all a (suc r) = set_related P xs vs d x v (omega arith) (λ k. all (suc k)) a r
 
--- a fact of each element, of which one gets a value
+-- a property of all elements is kept if an element is set to a value that has it
 set_all : {A : Type 0} (P : A → Type 0) (xs : List A) (d : ℕ) (x default : A) → ((r : ℕ) → P (get_or xs r default)) → P x → (r : ℕ) → P (get_or (set xs d x) r default)
 set_all P [] d x default all a r = all r
 set_all P (y ∷ xs) zero x default all a zero = a
@@ -39,7 +39,7 @@ set_all P (y ∷ xs) zero x default all a (suc r) = all (suc r)
 set_all P (y ∷ xs) (suc d) x default all a zero = all 0
 set_all P (y ∷ xs) (suc d) x default all a (suc r) = set_all P xs d x default (λ k. all (suc k)) a r
 
--- a function on what is known, which leaves what is unreadable
+-- a function on abstract values that keeps Unreadable
 map_at : (f : Abs → Abs) (xs : List Abs) (r : ℕ) → f abs.Unreadable ≡ abs.Unreadable → get_or (map f xs) r abs.Unreadable ≡ f (get_or xs r abs.Unreadable)
 map_at f [] r e = sym e
 map_at f (x ∷ xs) zero e = refl
@@ -58,11 +58,11 @@ module _ (subject : Subject) where
     context = g.context;
   }
 
-  -- other places
+  -- other places of the stack
   pub agrees_placed : (a : AbsState) (s : State) (places : List Abs) → AgreesPlaces subject.rings a.held places s.memory → Agrees subject a s → Agrees subject (record a { places = places }) s
   agrees_placed a s places h g = record { count = g.count; values = g.values; records = g.records; tied = g.tied; bounded = g.bounded; stack = g.stack; places = h; context = g.context }
 
-  -- the unit is of no account
+  -- agreement does not depend on the unit
   pub agrees_at : (a : AbsState) (s : State) (unit : ℕ) → Agrees subject a s → Agrees subject a (record s { unit = unit })
   agrees_at a s unit g = record { count = g.count; values = g.values; records = g.records; tied = g.tied; bounded = g.bounded; stack = g.stack; places = g.places; context = g.context }
 
@@ -78,7 +78,7 @@ module _ (subject : Subject) where
     context = g.context;
   }
 
-  -- r1 to r5 hold nothing, and r0 the answer
+  -- after a call: r1 to r5 are unreadable, and r0 has the result
   pub agrees_answered : (a : AbsState) (s : State) (x : Abs) (v : Value) → AgreesValue s.memory.records x v → HasReference a.held x → IsBoundedValue subject.rings v → Agrees subject a s → Agrees subject (helpers.after_answer x a) (with_answer v (waiting s))
   agrees_answered a s x v h t b g =
       let p0 = agrees_put a s 0 x v h t b g in
@@ -115,7 +115,7 @@ module _ (subject : Subject) where
     context = g.context;
   }
 
-  -- it was a record
+  -- a reservation was a record
   pub agrees_there : (a : AbsState) (s : State) (id : ℕ) (b : List ℕ) → record_named id s.memory.records ≡ Some b → IsAscending a.held → Agrees subject a s → Agrees subject (there_state id a) s
   agrees_there a s id b there asc g = record {
     count = length-map a.values (if_there id) ∙ g.count;
@@ -128,7 +128,7 @@ module _ (subject : Subject) where
     context = g.context;
   }
 
-  -- a record was given back
+  -- a record was submitted or discarded
   pub agrees_given_back : (a : AbsState) (s : State) (id : ℕ) → IsTested true (find (has_id id) a.held) → Agrees subject a s → Agrees subject (given_back_state id a) (record s { memory = without id s.memory })
   agrees_given_back a s id h g = record {
     count = length-map a.values (if_given_back id) ∙ g.count;
@@ -145,7 +145,7 @@ module _ (subject : Subject) where
   abbrev pub with_new : ℕ → ℕ → ℕ → AbsState → AbsState
   with_new unit ring size a = record a { held = a.held ++ (record { id = unit; ring = ring; size = size; sure = false }) ∷ [] }
 
-  -- its record is there
+  -- a new reference whose record was granted
   pub agrees_granted : (a : AbsState) (s : State) (unit ring size : ℕ) (b : List ℕ) → length b ≡ size → AreEarlier unit a.held → Agrees subject a s → Agrees subject (with_new unit ring size a) (record s { memory = holding unit b s.memory })
   agrees_granted a s unit ring size b long e g = record {
     count = g.count;
@@ -158,7 +158,7 @@ module _ (subject : Subject) where
     context = g.context;
   }
 
-  -- its record is missing
+  -- a new reference without a record
   pub agrees_refused : (a : AbsState) (s : State) (unit ring size : ℕ) → Agrees subject a s → Agrees subject (with_new unit ring size a) s
   agrees_refused a s unit ring size g = record {
     count = g.count;
@@ -171,7 +171,7 @@ module _ (subject : Subject) where
     context = g.context;
   }
 
-  -- the stack has other bytes, and keeps other pointers
+  -- the stack has other bytes, and holds other pointers
   pub agrees_stack : (a : AbsState) (s : State) (b : List ℕ) (pointers : StackPointers) (places : List Abs) → length b ≡ length s.memory.stack → AgreesPlaces subject.rings a.held places (record s.memory { stack = b; pointers = pointers }) → Agrees subject a s
       → Agrees subject (record a { places = places }) (record s { memory = record s.memory { stack = b; pointers = pointers } })
   agrees_stack a s b pointers places l h g = record {

@@ -1,4 +1,4 @@
--- What it tells of a state that a check holds.
+-- Consequences of checks that pass.
 use Rattle.std.proofs.Common.{◌≡◌, ℕ, ◌+◌, ◌≤◌, ◌^◌, ℤ, pos, negsuc, ◌+ℤ◌, Bool, true, false, List, Option, Some, None, ap, subst, refl, arith, Ok, Err}
 use Rattle.std.specs.Prelude.{nat_le, if◌then◌else◌}
 use Rattle.std.specs.Ordering.{int_eq}
@@ -16,7 +16,7 @@ use Rattle.rb_semantics.specs.declared.value.Value.TheVariants.{Nothing, Number}
 use Rattle.rb_verifier.specs.StackPlaces.{natural}
 use Rattle.rb_semantics.specs.Agreement.{reserved_value, AgreesValue}
 
--- a test that is not refused
+-- a test that passes
 pub passed : (b : Bool) (rule : Rule) (x : Unit {0}) → refused_if b rule ≡ Ok x → b ≡ false
 passed true rule x e = absurd (cc)
 passed false rule x e = refl
@@ -93,7 +93,7 @@ near_passed z to e = decided (is_near z) refl e
     decided false h k = absurd (cc)
     decided true h k = (cc, h)
 
--- a register that may be read does not hold nothing
+-- a register that may be read has a value
 not_nothing : (id : ℕ) (o : Option (List ℕ)) → Nothing ≡ reserved_value id o → ⊥
 not_nothing id None e = cc
 not_nothing id (Some b) e = cc

@@ -1,4 +1,4 @@
--- The records that are held are those of the references, after each change.
+-- The held records are still those of the references after each change.
 use Rattle.std.proofs.Common.{◌≡◌, ℕ, ◌+◌, ◌≤◌, true, false, List, [], ◌∷◌, ◌++◌, Some, None, length, map, filter, find, sym, ap, subst, ◌∙◌, refl, arith, eq-eqb, inl, inr}
 use Rattle.rb_verifier.specs.declared.references.Reference.{Reference}
 use Rattle.rb_verifier.specs.References.{IsAscending, has_id, other_than, tested_in}
@@ -10,7 +10,7 @@ use Rattle.rb_semantics.proofs.Records.{without_none}
 abbrev pub Records : Type 0
 Records = List (ℕ × List ℕ)
 
--- no reference of an id, no record
+-- without a reference of an id, there is no record with it
 pub held_absent : (id : ℕ) (held : List Reference) (rs : Records) → IsApart id held → AreHeld held rs → record_named id rs ≡ None
 held_absent id [] [] a h = refl
 held_absent id [] (r ∷ rs) a h = absurd h
@@ -21,7 +21,7 @@ held_absent id (q ∷ held) (r ∷ rs) a h =
       | inr missing ↦ held_absent id held (r ∷ rs) a.1 missing.1
     ]
 
--- no more records than references
+-- there are no more records than references
 pub held_count : (held : List Reference) (rs : Records) → AreHeld held rs → length rs ≤ length held
 held_count [] [] h = omega arith
 held_count [] (r ∷ rs) h = absurd h
@@ -32,7 +32,7 @@ held_count (q ∷ held) (r ∷ rs) h =
       | inr missing ↦ (let le : length (r ∷ rs) ≤ length held = held_count held (r ∷ rs) missing.1 in omega arith)
     ]
 
--- the record of a reference that is sure
+-- the record of a reference that was tested
 pub held_found : (id : ℕ) (held : List Reference) (rs : Records) (q : Reference) → find (has_id id) held ≡ Some q → q.sure ≡ true → AreHeld held rs → (b : List ℕ) × (record_named id rs ≡ Some b) × (length b ≡ q.size)
 held_found id [] rs q f s h = absurd (cc)
 held_found id (x ∷ held) [] q f s h =
@@ -57,7 +57,7 @@ pub held_missing : (q : Reference) (held : List Reference) (rs : Records) → q.
 held_missing q held [] s h = (s, h)
 held_missing q held (r ∷ rs) s h = inr (s, h)
 
--- the reference of a record that is missing goes
+-- dropping the reference of a missing record
 pub held_null : (id : ℕ) (held : List Reference) (rs : Records) → record_named id rs ≡ None → AreHeld held rs → AreHeld (filter (other_than id) held) rs
 held_null id [] rs n h = h
 held_null id (q ∷ held) [] n h =
@@ -78,7 +78,7 @@ tested_none : (id : ℕ) (held : List Reference) → IsApart id held → map (te
 tested_none id [] a = refl
 tested_none id (q ∷ held) a = rw (not_equal q.id id a.0) (ap (λ l. q ∷ l) (tested_none id held a.1))
 
--- the reference of a record that is there is sure
+-- marking the reference of a present record as tested
 pub held_there : (id : ℕ) (b : List ℕ) (held : List Reference) (rs : Records) → record_named id rs ≡ Some b → IsAscending held → AreHeld held rs → AreHeld (map (tested_in id) held) rs
 held_there id b [] rs n a h = h
 held_there id b (q ∷ held) [] n a h = absurd (cc)
@@ -97,7 +97,7 @@ held_there id b (q ∷ held) (r ∷ rs) n a h =
     rest : q.id ≡ id → IsApart id held
     rest e = subst (λ i. IsApart i held) e (apart_later q.id held a.0)
 
--- a record that is given back goes with its reference
+-- dropping a record together with its reference
 pub held_without : (id : ℕ) (held : List Reference) (rs : Records) → AreHeld held rs → AreHeld (filter (other_than id) held) (without_record id rs)
 held_without id [] [] h = tt
 held_without id [] (r ∷ rs) h = absurd h
@@ -115,7 +115,7 @@ held_without id (q ∷ held) (r ∷ rs) h =
       ]
     ]
 
--- just the one record goes
+-- dropping a record removes exactly one
 pub held_removed : (id : ℕ) (b : List ℕ) (held : List Reference) (rs : Records) → IsAscending held → AreHeld held rs → record_named id rs ≡ Some b → length (without_record id rs) + 1 ≡ length rs
 held_removed id b [] [] a h n = absurd (cc)
 held_removed id b [] (r ∷ rs) a h n = absurd h
@@ -162,7 +162,7 @@ held_written id b old (q ∷ held) (r ∷ rs) n l h =
       ]
     ]
 
--- no record is held where there is no reference
+-- without references, no record is held
 pub held_none : (held : List Reference) (rs : Records) → held ≡ [] → AreHeld held rs → rs ≡ []
 held_none [] [] e h = refl
 held_none [] (r ∷ rs) e h = absurd h

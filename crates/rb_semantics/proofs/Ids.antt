@@ -1,4 +1,4 @@
--- Ids, and the references that they name.
+-- Ids, and the references that have them.
 use Rattle.std.proofs.Common.{◌≡◌, ◌≢◌, ℕ, ◌<◌, Bool, true, false, eqb, List, [], ◌∷◌, ◌++◌, Option, Some, None, map, filter, find, sym, ap, ◌∙◌, refl, arith, eq-eqb, ◌⊎◌, inl, inr}
 use Rattle.std.specs.List.{AllByRecursion}
 use Rattle.std.proofs.lemmas.Bool.{cases_eq}
@@ -25,13 +25,13 @@ pub apart_earlier : (id : ℕ) (held : List Reference) → AreEarlier id held �
 apart_earlier id [] h = tt
 apart_earlier id (q ∷ held) h = (let lt : q.id < id = h.0 in omega arith, apart_earlier id held h.1)
 
--- the id of a reference that is found is not one that none has
+-- an id that some reference has differs from one that none has
 pub found_apart : (sure : Bool) (m n : ℕ) (held : List Reference) → IsApart n held → IsTested sure (find (has_id m) held) → m ≢ n
 found_apart sure m n [] h t = absurd t
 found_apart sure m n (q ∷ held) h t =
     elim (eq_cases q.id m) [ inl k ↦ (λ e. h.0 (k.1 ∙ e)) | inr k ↦ found_apart sure m n held h.1 (rw k.0 at t) ]
 
--- a reference that is sure is not one that is not
+-- a reference that was tested is not one that was not
 is_not : (o : Option Reference) → IsTested true o → IsTested false o → ⊥
 is_not None h k = h
 is_not (Some q) h k = let f : true ≡ false = sym h ∙ k in cc

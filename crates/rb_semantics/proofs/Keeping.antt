@@ -1,5 +1,5 @@
--- Steps under one annotation: what an instruction does is sound, and the states to which it leads agree with the annotation that the old
--- state agrees with.
+-- Steps under a fixed annotation: an instruction's effect is sound, and the states that it leads to agree with the same
+-- annotation.
 use Rattle.std.proofs.Common.{◌≡◌, ℕ, ◌+◌, ◌<◌, true, [], ◌∷◌, length}
 use Rattle.rb_program.specs.Program.{slot_at}
 use Rattle.rb_program.specs.Shape.{IsWellShaped, IsInstructionStart}
@@ -14,7 +14,7 @@ use Rattle.rb_semantics.specs.ProgramRuns.{given_back_count}
 use Rattle.rb_semantics.specs.Agreement.{Agrees}
 use Rattle.rb_semantics.specs.Soundness.{CanStep, IsLawful, IsSoundEffect}
 
--- the state is at an instruction of a well shaped program, and agrees there with this annotation, which is valid
+-- the state is at an instruction of a well-shaped program, and agrees there with this annotation, which is valid
 pub record CanStepUnder (subject : Subject) (annotation : Annotation) (s : State) : Type 0 where
   pub well_shaped : IsWellShaped subject.program
   pub valid : IsValid (limits_of subject) subject.program annotation
@@ -47,7 +47,7 @@ module _ (subject : Subject) (annotation : Annotation) where
   abbrev pub can_step : (s : State) → CanStepUnder subject annotation s → CanStep subject s
   can_step s u = record { well_shaped = u.well_shaped; annotation = annotation; valid = u.valid; begins = u.begins; formed = u.formed; agrees = u.agrees }
 
-  -- what is sound under an annotation is sound
+  -- an effect that is sound under a fixed annotation is sound
   pub sound_so : (s : State) (effect : StepEffect) → IsSoundUnder subject annotation s effect → IsSoundEffect subject s effect
   sound_so s (Goes t) h = record { forward = h.forward; held = h.held; next = can_step t h.next }
   sound_so s (Ends n) h = h

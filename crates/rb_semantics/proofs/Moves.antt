@@ -31,7 +31,7 @@ use Rattle.rb_semantics.proofs.Values.{number_value}
 use Rattle.rb_semantics.proofs.Checks.{passed, number_passed, readable_passed}
 use Rattle.rb_semantics.proofs.Rows.{past, known, operand_agrees, Follows, Sound, gives_sound}
 
--- what arithmetic tells of its result
+-- the abstract result of arithmetic agrees with the result
 computed_agrees : (rs : List (ℕ × List ℕ)) (insn : Insn) (x y : Abs) (n m : ℕ) → AgreesValue rs x (Number n) → AgreesValue rs y (Number m) → AgreesValue rs (abstract_result insn x y) (Number (value_of insn n m))
 computed_agrees rs insn (abs.Known i) (abs.Known j) n m h k = let e : n ≡ i = cc in let f : m ≡ j = cc in rw (e, f) refl
 computed_agrees rs insn (abs.Known i) abs.Number n m h k = (_, refl)
@@ -76,7 +76,7 @@ module _ (subject : Subject) (s : State) (c : CanStep subject s) (insn : Insn) (
   pub given_sound : (dst : Reg) (x : Abs) (v : Value) → AgreesValue s.memory.records x v → HasReference a.held x → IsBoundedValue subject.rings v → IsGiven (meaning.gives insn dst v s) (table.check_assign dst x a)
   given_sound dst x v h t b = past (Follows subject s c insn begins (meaning.gives insn dst v s)) (check_writable dst) _ (λ _ _. gives_sound subject s c insn begins dst x v on h t b)
 
-  -- a value that may be read is copied
+  -- a copy of a value that may be read
   copied_value : (dst : Reg) (x : Abs) (v : Value) → (AgreesValue s.memory.records x Nothing → ⊥) → AgreesValue s.memory.records x v → HasReference a.held x → IsBoundedValue subject.rings v → Follows subject s c insn begins (meaning.execute_copy insn dst v s) (table.assignment_effect dst x a)
   copied_value dst x Nothing ne h t b = absurd (ne h)
   copied_value dst x (Number n) ne h t b = gives_sound subject s c insn begins dst x (Number n) on h t b
@@ -119,7 +119,7 @@ module _ (subject : Subject) (s : State) (c : CanStep subject s) (insn : Insn) (
       let below : ring < subject.rings = grind (arith, nat_tests) in
       gives_sound subject s c insn begins dst (abs.Ring ring) (Ring ring) on refl tt below))
 
-  -- arithmetic on what are numbers, by any function that does so
+  -- arithmetic on numbers, for any function that computes it
   pub numbers_sound : (f : Value → Value → StepEffect) (dst : Reg) (x y : Abs) (v w : Value) → ((n m : ℕ) → f (Number n) (Number m) ≡ meaning.execute_compute insn dst (Number n) (Number m) s) → AgreesValue s.memory.records x v → AgreesValue s.memory.records y w
       → IsGiven (f v w) (check_numbers insn x y >>= (λ z. Ok (table.assignment_effect dst z a)))
   numbers_sound f dst x y v w e h k = assigned_number (check_number rule.PointerArithmetic x) (check_number rule.PointerArithmetic y) refl refl
@@ -133,7 +133,7 @@ module _ (subject : Subject) (s : State) (c : CanStep subject s) (insn : Insn) (
           let same : f v w ≡ meaning.execute_compute insn dst v w s = ap (λ v. f v w) n.1 ∙ ap (λ w. f (Number n.0) w) m.1 ∙ e n.0 m.0 ∙ sym (ap (λ v. meaning.execute_compute insn dst v w s) n.1 ∙ ap (λ w. meaning.execute_compute insn dst (Number n.0) w s) m.1) in
           subst (λ effect. Follows subject s c insn begins effect (table.assignment_effect dst (abstract_result insn x y) a)) (sym same) (computed_value dst x y v w n.0 m.0 n.1 m.1 h k)
 
-  -- the checks of the operands, and then arithmetic
+  -- the checks on the operands, followed by arithmetic
   pub operands_read : (effect : StepEffect) (dst : Reg) (operand : Operand) (m : Result Abs Rule) → IsGiven effect (m >>= (λ z. Ok (table.assignment_effect dst z a)))
       → IsGiven effect (check_writable dst >>= (λ _. check_readable (value_in a dst.number) >>= (λ _. check_readable (operand_value operand a) >>= (λ _. m >>= (λ z. Ok (table.assignment_effect dst z a))))))
   operands_read effect dst operand m h =

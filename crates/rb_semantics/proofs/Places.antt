@@ -1,4 +1,4 @@
--- The places of the stack are as is known of them, after each change.
+-- The places of the stack still agree with their abstract values after each change.
 use Rattle.std.proofs.Common.{◌≡◌, ◌≢◌, ℕ, ◌+◌, ◌-◌, ◌*◌, ◌<◌, ◌≤◌, Bool, true, false, List, [], ◌∷◌, ◌++◌, Some, None, length, take, drop, replicate, find, sym, ap, subst, ◌∙◌, refl, arith, eq-eqb, ◌⊎◌, inl, inr}
 use Rattle.std.specs.Prelude.{not, ◌==◌, if◌then◌else◌}
 use Rattle.std.proofs.lemmas.Bool.{cases_lt}
@@ -25,9 +25,9 @@ use Rattle.rb_semantics.specs.Agreement.{AgreesValue, IsTested, HasReference, Is
 use Rattle.rb_semantics.proofs.Ids.{eq_cases, not_equal}
 use Rattle.rb_semantics.proofs.Values.{value_below, tied_below, value_pushed, tied_pushed, value_written, value_null, tied_null, value_there, tied_there, value_given_back, tied_given_back}
 
--- ---- what is left of the pointers, and of the bytes of a place
+-- ---- the remaining pointers, and the remaining bytes of a place
 
--- what is left at a place once the pointers that have some of these bytes went
+-- the pointer that a place still holds after those that overlap some bytes were removed
 pub left_beside : (at len place : ℕ) (pointers : StackPointers) → pointer_at place (pointers_beside at len pointers) ≡ (if touches at len place then None else pointer_at place pointers)
 left_beside at len place [] = none_either (touches at len place)
   where
@@ -50,15 +50,15 @@ gone_beside at len place pointers e = left_beside at len place pointers ∙ ap (
 pub kept_beside : (at len place : ℕ) (pointers : StackPointers) → touches at len place ≡ false → pointer_at place (pointers_beside at len pointers) ≡ pointer_at place pointers
 kept_beside at len place pointers e = left_beside at len place pointers ∙ ap (λ b. if b then None else pointer_at place pointers) e
 
--- bytes that touch no byte of a place lie before it or behind it
+-- bytes that do not overlap a place lie before it or after it
 apart : (at len place : ℕ) → 0 < len → touches at len place ≡ false → (8 * place + 8 ≤ at) ⊎ (at + len ≤ 8 * place)
 apart at len place some e = elim (cases_lt (8 * place) (at + len)) [ inl lt ↦ inl (grind (arith, nat_tests)) | inr ge ↦ inr ge ]
 
--- the bytes of a list with others written over some
+-- a list of bytes after others were written over some of them
 abbrev pub over : ℕ → List ℕ → List ℕ → List ℕ
 over at new old = take at old ++ (new ++ drop (length new) (drop at old))
 
--- eight bytes before those that were written, and eight behind them
+-- eight bytes before those that were written, and eight bytes after them
 before_same : (at n : ℕ) (new old : List ℕ) → n + 8 ≤ at → at + length new ≤ length old → take 8 (drop n (over at new old)) ≡ take 8 (drop n old)
 before_same at n new old h k =
     let eight : n + 8 - n ≡ 8 = omega arith in
@@ -72,18 +72,18 @@ pub bytes_same : (at place : ℕ) (new old : List ℕ) → 0 < length new → at
 bytes_same at place new old some k e =
     elim (apart at (length new) place some e) [ inl h ↦ before_same at (8 * place) new old h k | inr h ↦ behind_same at (8 * place) new old h k ]
 
--- the bytes that were written stand where they were
+-- the bytes that were written are read back
 pub range_written : (at : ℕ) (new old : List ℕ) → at + length new ≤ length old → take (length new) (drop at (over at new old)) ≡ new
 range_written at new old h = grind (arith, common_steps)
 
--- the bytes of a place touch no other place
+-- the bytes of a place overlap no other place
 pub other_touched : (place other : ℕ) → other ≢ place → touches (8 * place) 8 other ≡ false
 other_touched place other ne = grind (arith, nat_tests)
 
 pub same_touched : (place : ℕ) → touches (8 * place) 8 place ≡ true
 same_touched place = grind (arith, nat_tests)
 
--- ---- changes of what is known
+-- ---- changes of the abstract values
 
 null_place_below : (id : ℕ) (x : Abs) → BelowValue (if_null id x) (place_if_null id x)
 null_place_below id (abs.Perhaps n) = elim (n == id) as (λ b. BelowValue (if b then abs.Known 0 else abs.Perhaps n) (if b then abs.Number else abs.Perhaps n)) [ true ↦ tt | false ↦ refl ]
@@ -103,7 +103,7 @@ module _ (rings : ℕ) where
     pointers = g.pointers;
   }
 
-  -- what a function says of the places
+  -- places that are listed from a function
   places_listed : (f : KnownPlaces) (held : List Reference) (m : Memory) → ((place : ℕ) → place < 64 → AgreesValue m.records (f place) (value_at place m)) → ((place : ℕ) → place < 64 → HasReference held (f place))
       → ((place : ℕ) (v : Value) → pointer_at place m.pointers ≡ Some v → IsKeptPointer rings v) → AgreesPlaces rings held (listed_places f) m
   places_listed f held m h t k = record { values = λ place lt. rw (known-listed f place lt) (h place lt); tied = λ place lt. rw (known-listed f place lt) (t place lt); pointers = k }
@@ -144,7 +144,7 @@ module _ (rings : ℕ) where
 
 -- ---- stores to the stack
 
--- the memory once bytes were written on the stack, and once a place keeps a pointer
+-- the memory after bytes were written to the stack, and after a pointer was stored at a place
 abbrev pub stack_written : ℕ → List ℕ → Memory → Memory
 stack_written at new m = record m { stack = over at new m.stack; pointers = pointers_beside at (length new) m.pointers }
 
@@ -153,13 +153,13 @@ stack_spilled place v m = record m { stack = over (8 * place) (replicate 8 0) m.
 
 module _ (rings : ℕ) (held : List Reference) (places : List Abs) (m : Memory) (g : AgreesPlaces rings held places m) where
   module _ (at : ℕ) (new : List ℕ) (some : 0 < length new) (inside : at + length new ≤ length m.stack) where
-    -- a place that is not touched
+    -- a place that does not overlap the bytes
     same_value : (place : ℕ) → touches at (length new) place ≡ false → value_at place (stack_written at new m) ≡ value_at place m
     same_value place e =
         ap (λ o. loaded_value o (take 8 (drop (8 * place) (over at new m.stack)))) (kept_beside at (length new) place m.pointers e)
         ∙ ap (loaded_value (pointer_at place m.pointers)) (bytes_same at place new m.stack some inside e)
 
-    -- and one that is
+    -- a place that overlaps them
     number_there : (place : ℕ) → touches at (length new) place ≡ true → value_at place (stack_written at new m) ≡ Number (little_number 8 (take 8 (drop (8 * place) (over at new m.stack))))
     number_there place e = ap (λ o. loaded_value o (take 8 (drop (8 * place) (over at new m.stack)))) (gone_beside at (length new) place m.pointers e)
 

@@ -1,4 +1,4 @@
--- What the rows without kept pointers accept, the whole table accepts, with the same effect.
+-- The full rules accept all that the plain rules accept, with the same effect.
 use Rattle.std.proofs.Common.{◌≡◌, ℕ, ◌+◌, ℤ, pos, false, Option, Some, None, Ok, refl, sym, ap, ◌∙◌, subst, ⊎_elim}
 use Rattle.std.proofs.lemmas.Bool.{cases_lt}
 use Rattle.rb_insn.specs.declared.insn.Insn.{Insn}
@@ -23,7 +23,7 @@ use Rattle.rb_verifier.proofs.Laws.{known-listed, known-past, both_hold}
 use Rattle.rb_verifier.proofs.KeptPlaces.{any_place-false, not_kept, listed_same, with_data-data}
 use Rattle.rb_semantics.specs.PlainPrograms.{plain_load, plain_store, plain_output, plain_call, plain_step, HoldsPlainly, PlainAnnotationsAreValid}
 
--- where each place has data
+-- in all-data places, each place has data
 data_known : (place : ℕ) → known_in all_data place ≡ Number
 data_known place = ⊎_elim (λ lt. known-listed (λ place. Number) place lt) (λ le. known-past (λ place. Number) place le) (cases_lt place 64)
 

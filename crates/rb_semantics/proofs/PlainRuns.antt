@@ -1,4 +1,4 @@
--- Programs that the rows without kept pointers accept run as they do without kept pointers.
+-- Programs that the plain rules accept run as they do under the plain meaning.
 use Rattle.std.proofs.Common.{◌≡◌, ℕ, zero, suc, ℤ, pos, Bool, true, false, List, [], ◌∷◌, Option, Some, None, option_and_then, length, refl, sym, ap, ◌∙◌, subst, Ok}
 use Rattle.std.specs.Prelude.{if◌then◌else◌}
 use Rattle.std.specs.Ordering.{int_eq}
@@ -53,7 +53,7 @@ use Rattle.rb_semantics.proofs.Keeping.{CanStepUnder, IsSoundUnder, can_step}
 use Rattle.rb_semantics.proofs.Sound.{instruction_keeps, can_start_under}
 use Rattle.rb_semantics.proofs.PlainPrograms.{plain_valid}
 
--- ---- no row without kept pointers keeps one
+-- ---- plain steps store no pointer
 
 abbrev KeepsNone : StepEffect → Type 0
 KeepsNone (Goes t) = t.memory.pointers ≡ []
@@ -195,7 +195,7 @@ none_kept (JumpFar distance) s e = none_along (JumpFar distance) s e Target
 none_kept (Call number) s e = none_called s e (helper_of number)
 none_kept Exit s e = none_ended (register s 0)
 
--- ---- both meanings are alike where the rows without kept pointers hold
+-- ---- the two meanings agree where the plain rules hold
 
 number_stored : (insn : Insn) (base v : Value) (offset : ℤ) (n : ℕ) (size : Size) (s : State) → v ≡ Number n → execute_spill insn base offset (byte_count size) (spill_of size v) v s ≡ execute_store insn base offset (byte_count size) v s
 number_stored insn base v offset n size s e = subst (λ v. execute_spill insn base offset (byte_count size) (spill_of size v) v s ≡ execute_store insn base offset (byte_count size) v s) (sym e) (of_size size)
@@ -206,7 +206,7 @@ number_stored insn base v offset n size s e = subst (λ v. execute_spill insn ba
     of_size Word = refl
     of_size Double = refl
 
--- what a store takes by those rows is a number
+-- a store by the plain rules takes a number
 stored_number : (limits : Limits) (base : Reg) (by : ℤ) (len : ℕ) (v : Abs) (a : AbsState) (e : refs.Effect) → plain_store limits base by len v a ≡ Ok e → (unit : Unit {0}) × (check_number rule.PointerStored v ≡ Ok unit)
 stored_number limits base by len v a e h =
     let x = value_in a base.number in

@@ -22,13 +22,13 @@ named_without n m (r ∷ rs) ne =
       | inr h ↦ rw h.0 (elim (eq_cases r.0 n) [ inl k ↦ rw k.0 refl | inr k ↦ rw k.0 (named_without n m rs ne) ])
     ]
 
--- a record that is not there leaves all others
+-- removing a name without a record changes nothing
 pub without_none : (n : ℕ) (rs : List (ℕ × List ℕ)) → record_named n rs ≡ None → without_record n rs ≡ rs
 without_none n [] h = refl
 without_none n (r ∷ rs) h =
     elim (eq_cases r.0 n) [ inl k ↦ absurd (let f = rw k.0 at h in cc) | inr k ↦ rw k.0 (ap (λ l. r ∷ l) (without_none n rs (rw k.0 at h))) ]
 
--- other bytes change no pointer
+-- changing the bytes of a record changes no reservation
 pub reserved_with_bytes : (n m : ℕ) (b : List ℕ) (rs : List (ℕ × List ℕ)) → reserved_value n (record_named n (with_bytes m b rs)) ≡ reserved_value n (record_named n rs)
 reserved_with_bytes n m b [] = refl
 reserved_with_bytes n m b (r ∷ rs) =

@@ -1,4 +1,4 @@
--- How the step of an instruction whose checks hold leads to a state that can step.
+-- The step of an instruction whose checks hold leads to a state that can step.
 use Rattle.std.proofs.Common.{◌≡◌, ℕ, ◌+◌, ◌<◌, ◌≤◌, true, List, Some, length, sym, subst, refl, arith, Result, Ok, Err}
 use Rattle.rb_insn.specs.declared.insn.Insn.{Insn}
 use Rattle.rb_insn.specs.declared.insn.Operand.{Operand}
@@ -31,36 +31,36 @@ use Rattle.rb_semantics.specs.Soundness.{CanStep}
 use Rattle.rb_semantics.proofs.Keeping.{CanStepUnder, StepsForwardUnder, IsSoundUnder}
 use Rattle.rb_semantics.proofs.Changes.{agrees_below, agrees_at, agrees_put}
 
--- a fact of what the table gives, where it gives an effect
+-- a property of the abstract effect, if there is one
 abbrev pub Gives : (refs.Effect → Type 0) → Result refs.Effect Rule → Type 0
 Gives P (Ok e) = P e
 Gives P (Err broken) = Unit {0}
 
--- past a check that holds
+-- continues after a check that passed
 pub past : (P : refs.Effect → Type 0) {A : Type 0} (m : Result A Rule) (f : A → Result refs.Effect Rule) → ((x : A) → m ≡ Ok x → Gives P (f x)) → Gives P (m >>= f)
 past P (Ok x) f k = k x refl
 past P (Err broken) f k = tt
 
--- what is known at the unit of a state that can step
+-- the abstract state at the unit of a state that can step
 abbrev pub known : (subject : Subject) (s : State) → CanStep subject s → AbsState
 known subject s c = c.annotation s.unit
 
--- the second operand is as is known of it
+-- the second operand agrees with its abstract value
 pub operand_agrees : (subject : Subject) (s : State) (c : CanStep subject s) (operand : Operand) → AgreesValue s.memory.records (operand_value operand (known subject s c)) (operand_in s operand)
 operand_agrees subject s c (Immediate k) = refl
 operand_agrees subject s c (Register r) = c.agrees.values r.number
 
 module _ (subject : Subject) (s : State) (c : CanStep subject s) (insn : Insn) (begins : slot_at subject.program s.unit ≡ Some insn) where
-  -- what is known along the edges of the instruction is so at the units to which they lead
+  -- the abstract states along the instruction's edges are below those of the units that they lead to
   pub record IsEffect (e : refs.Effect) : Type 0 where
     pub forms : (later : ℕ) → s.unit + 1 ≤ later → IsFormed later e.next × IsFormed later e.jump
     pub edges : (edge : Edge) (to : ℕ) → edge_target s.unit insn edge ≡ Some to → Below (along_edge edge e) (c.annotation to)
 
-  -- from an effect of the table it follows that what the instruction does is sound
+  -- if the abstract step has this effect, the instruction's effect is sound
   abbrev pub Follows : StepEffect → refs.Effect → Type 0
   Follows effect e = IsEffect e → IsSoundUnder subject c.annotation s effect
 
-  -- so it does from what the table gives
+  -- the same for the result of the abstract step
   abbrev pub Sound : StepEffect → Result refs.Effect Rule → Type 0
   Sound effect = Gives (Follows effect)
 
@@ -93,12 +93,12 @@ module _ (subject : Subject) (s : State) (c : CanStep subject s) (insn : Insn) (
       let on : StepsForwardUnder subject c.annotation s t = record { forward = (edge_forward edge to there).0; held = held; next = next } in
       subst (λ there. IsSoundUnder subject c.annotation s (goes_to there (record { unit = s.unit; registers = registers; memory = m }))) (sym there) on
 
-  -- to the next instruction
+  -- continues with the next instruction
   pub goes_next : (e : refs.Effect) (registers : List Value) (m : Memory) → falls_through insn ≡ true → length m.records ≡ length s.memory.records → Agrees subject e.next (record { unit = s.unit; registers = registers; memory = m }) → IsEffect e
       → IsSoundUnder subject c.annotation s (goes_by_edge Next insn (record { unit = s.unit; registers = registers; memory = m }))
   goes_next e registers m on held agrees h = goes_along Next e (s.unit + units_taken insn) registers m (leads-goes_on s.unit insn on) held agrees h
 
-  -- dst gets a value that is as is known
+  -- sets dst to a value that agrees with its abstract value
   pub gives_sound : (dst : Reg) (x : Abs) (v : Value) → falls_through insn ≡ true → AgreesValue s.memory.records x v → HasReference (known subject s c).held x → IsBoundedValue subject.rings v → Follows (gives insn dst v s) (table.assignment_effect dst x (known subject s c))
   gives_sound dst x v on h t b e =
       goes_next (table.assignment_effect dst x (known subject s c)) (with_register dst v s).registers s.memory on refl (agrees_put subject (known subject s c) s dst.number x v h t b c.agrees) e

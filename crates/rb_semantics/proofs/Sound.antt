@@ -1,4 +1,4 @@
--- From a state that agrees with a valid annotation each instruction has a meaning, and leads to such a state.
+-- From a state that agrees with a valid annotation, each instruction has a meaning and leads to such a state.
 use Rattle.std.proofs.Common.{◌≡◌, ℕ, zero, suc, ◌<◌, true, false, eqb, List, [], ◌∷◌, Some, None, length, sym, ap, subst, ◌∙◌, refl, arith}
 use Rattle.std.specs.Prelude.{not}
 use Rattle.std.proofs.lemmas.List.{length-replicate}
@@ -45,7 +45,7 @@ use Rattle.rb_semantics.proofs.Stores.{stored_sound, spilled_sound}
 use Rattle.rb_semantics.proofs.Branches.{jumps_to, branch_sound}
 use Rattle.rb_semantics.proofs.Calling.{call_sound}
 
--- a signed load has no whole place
+-- a sign-extending load never loads a whole place
 signed_part : (size : SignedSize) (at : ℕ) → whole_place at (signed_byte_count size) ≡ None
 signed_part signed.Byte at = refl
 signed_part signed.Half at = refl
@@ -65,7 +65,7 @@ module _ (subject : Subject) (s : State) (c : CanStep subject s) where
       subst (λ v. Follows subject s c Exit begins (execute_exit v) (effect_on_both a)) (sym n.1)
       (λ h. held_none a.held s.memory.records (none_held a.held (passed (not (is_empty a.held)) rule.ReferenceLeft i e)) c.agrees.records)))
 
-  -- each row of the table
+  -- each kind of instruction
   row_sound : (insn : Insn) (begins : slot_at subject.program s.unit ≡ Some insn) → Sound subject s c insn begins (execute insn s) (table.abstract_step (limits_of subject) s.unit insn (known subject s c))
   unfolding execute table.abstract_step
   row_sound (Move width dst (Immediate k)) begins =
@@ -90,7 +90,7 @@ module _ (subject : Subject) (s : State) (c : CanStep subject s) where
   row_sound (Call code) begins = call_sound subject s c code begins (helper_of code)
   row_sound Exit begins = exit_sound begins
 
-  -- the annotation's effect at an instruction
+  -- the effect that the annotation has at an instruction
   effect_here : (insn : Insn) (begins : slot_at subject.program s.unit ≡ Some insn) (h : HoldsAt (limits_of subject) c.annotation (unit_count subject.program) s.unit insn) → IsEffect subject s c insn begins h.effect
   effect_here insn begins h = record {
     forms = step_forms (limits_of subject) s.unit insn (known subject s c) h.effect c.formed h.checks;
@@ -99,7 +99,7 @@ module _ (subject : Subject) (s : State) (c : CanStep subject s) where
         h.edges edge to there (begins-lt subject.program to forward.1.0 forward.1.1);
   }
 
-  -- what the instruction does keeps the annotation
+  -- the instruction's effect keeps the annotation
   pub instruction_keeps : (insn : Insn) → slot_at subject.program s.unit ≡ Some insn → IsSoundUnder subject c.annotation s (execute insn s)
   instruction_keeps insn begins =
       let h : HoldsAt (limits_of subject) c.annotation (unit_count subject.program) s.unit insn = c.valid.each s.unit insn (begins-lt subject.program s.unit insn begins) begins in
@@ -111,7 +111,7 @@ module _ (subject : Subject) (s : State) (c : CanStep subject s) where
 pub sound : (subject : Subject) (s : State) → CanStep subject s → IsSoundEffect subject s (next_step subject.program s)
 sound subject s c = subst (λ slot. IsSoundEffect subject s (execute_at slot s)) (sym c.begins.1) (instruction_sound subject s c c.begins.0 c.begins.1)
 
--- a program begins in a state that is as is known at entry
+-- the entry state of a program agrees with the abstract entry state
 entry_values : (context : List ℕ) (r : ℕ) → AgreesValue [] (value_in entry_state r) (register (entry_program_state context) r)
 entry_values context zero = tt
 entry_values context (suc zero) = refl
@@ -154,7 +154,7 @@ entry_bounded rings context (suc (suc (suc (suc (suc (suc (suc (suc (suc zero)))
 entry_bounded rings context (suc (suc (suc (suc (suc (suc (suc (suc (suc (suc zero)))))))))) = refl
 entry_bounded rings context (suc (suc (suc (suc (suc (suc (suc (suc (suc (suc (suc r))))))))))) = tt
 
--- the stack has data, and keeps no pointer
+-- the stack holds data and no pointer
 entry_places : (rings : ℕ) (context : List ℕ) → AgreesPlaces rings entry_state.held entry_state.places (entry_program_state context).memory
 entry_places rings context = record {
   values = λ place lt. rw (known-listed (λ place. abs.Number) place lt) (_, refl);
@@ -174,7 +174,7 @@ entry_agrees subject context long = record {
   context = long;
 }
 
--- a verified program can take its first step, under each valid annotation
+-- a verified program can take its first step under each valid annotation
 pub can_start_under : (subject : Subject) (a : Annotation) (context : List ℕ) → IsWellShaped subject.program → IsInstructionStart subject.program 0 → IsValid (limits_of subject) subject.program a → length context ≡ subject.ctx_len → CanStepUnder subject a (entry_program_state context)
 can_start_under subject a context shaped first valid long =
     let inside : 0 < unit_count subject.program = begins-lt subject.program 0 first.0 first.1 in

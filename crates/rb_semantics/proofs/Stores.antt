@@ -44,7 +44,7 @@ use Rattle.rb_semantics.proofs.Rows.{past, known, Follows, Sound, goes_next}
 use Rattle.rb_semantics.proofs.Accesses.{IsInside, fits, length-over, length-stored, size_some, data_number, kept_apart, begins_at, whole_begins, record_inside, stack_range, stack_inside, inside_passed}
 
 module _ (subject : Subject) (a : AbsState) (s : State) (g : Agrees subject a s) where
-  -- the memory after a store that was lawful, and what it leaves of the places
+  -- the memory after an allowed store, and the abstract places
   pub record IsStored (o : Option Memory) (places : List Abs) : Type 0 where
     pub memory : Memory
     pub is : o ≡ Some memory
@@ -88,9 +88,9 @@ module _ (subject : Subject) (a : AbsState) (s : State) (g : Agrees subject a s)
       after : ℕ → Memory
       after at = record s.memory { stack = over at (replicate 8 0) s.memory.stack; pointers = (place, w) ∷ pointers_beside at 8 s.memory.pointers }
 
--- ---- what the check of a store leaves
+-- ---- the places after the check of a store
 
--- to another part than the stack: a number, and the places stay
+-- a store to a part other than the stack: stores a number and keeps the places
 pub other_passed : (len : ℕ) (y : Abs) (places left : List Abs) → check_stored None len y places ≡ Ok left → IsNumber y × (places ≡ left)
 other_passed len y places left e = of_check (check_number rule.PointerStored y) refl e
   where
@@ -98,7 +98,7 @@ other_passed len y places left e = of_check (check_number rule.PointerStored y) 
     of_check (Ok u) h e = (number_passed rule.PointerStored y u h, cc)
     of_check (Err broken) h e = absurd (cc)
 
--- a place keeps what may be read and is no number
+-- a place that holds a readable value other than a number
 pub record IsKept (at len : ℕ) (y : Abs) (places left : List Abs) : Type 0 where
   pub place : ℕ
   pub whole : whole_place at len ≡ Some place
@@ -115,7 +115,7 @@ kept_passed at len y places left d None w (Ok u) h e = absurd (let f = rw h at e
 kept_passed at len y places left d (Some place) w (Err broken) h e = absurd (let f = rw h at e in cc)
 kept_passed at len y places left d None w (Err broken) h e = absurd (let f = rw h at e in cc)
 
--- to the stack: a number leaves data, and else a place keeps it
+-- a store to the stack: a number leaves data, and a pointer is held at a place
 pub stack_passed : (at len : ℕ) (y : Abs) (places left : List Abs) → check_stored (Some at) len y places ≡ Ok left → (IsNumber y × (listed_places (with_data at len (known_in places)) ≡ left)) ⊎ IsKept at len y places left
 stack_passed at len y places left e = by_data (is_data y) refl e
   where
@@ -124,7 +124,7 @@ stack_passed at len y places left e = by_data (is_data y) refl e
     by_data true d e = inl (data_number y d, cc)
     by_data false d e = inr (kept_passed at len y places left d (whole_place at len) refl (check_readable y) refl e)
 
--- a number that is known as a pointer is null
+-- a number that agrees with an abstract pointer is null
 null_number : (rs : List (ℕ × List ℕ)) (y : Abs) (n : ℕ) (unit : Unit {0}) → is_data y ≡ false → check_readable y ≡ Ok unit → AgreesValue rs y (Number n) → n ≡ 0
 null_number rs (abs.Perhaps id) n unit d r h = of_record (record_named id rs) h
   where
@@ -194,7 +194,7 @@ module _ (subject : Subject) (a : AbsState) (s : State) (g : Agrees subject a s)
   number_stored (abs.Ring m) v by size n y left unit c h k t yn yt e = absurd (cc)
   number_stored (abs.Perhaps m) v by size n y left unit c h k t yn yt e = absurd (cc)
 
-  -- a pointer is stored: at a whole place of the stack
+  -- a store of a pointer to a whole place of the stack
   pub record IsSpilled (v : Value) (by : ℤ) (len : ℕ) (w : Value) (left : List Abs) : Type 0 where
     pub eight : len ≡ 8
     pub stored : IsStored subject a s g (memory_with_spill s.memory v by w) left
@@ -232,7 +232,7 @@ module _ (subject : Subject) (a : AbsState) (s : State) (g : Agrees subject a s)
   pointer_stored (abs.Ring m) v by len w y left h k yn yt b e = absurd (cc)
   pointer_stored (abs.Perhaps m) v by len w y left h k yn yt b e = absurd (cc)
 
-  -- nothing is not stored
+  -- a register without a value can't be stored
   pub nothing_stored : (byte : Option ℕ) (len : ℕ) (y : Abs) (left : List Abs) → AgreesValue s.memory.records y Nothing → check_stored byte len y a.places ≡ Ok left → ⊥
   nothing_stored None len y left h e = let n = number_value s.memory.records y Nothing (other_passed len y a.places left e).0 h in let f : Nothing ≡ Number n.0 = n.1 in cc
   nothing_stored (Some at) len y left h e =
@@ -241,7 +241,7 @@ module _ (subject : Subject) (a : AbsState) (s : State) (g : Agrees subject a s)
         | inr kept ↦ readable_passed s.memory.records y kept.unit kept.readable h
       ]
 
--- a number is no pointer
+-- a number is not a pointer
 no_spill : (size : Size) (n : ℕ) → spill_of size (Number n) ≡ None
 no_spill Byte n = refl
 no_spill Half n = refl
@@ -255,13 +255,13 @@ module _ (subject : Subject) (s : State) (c : CanStep subject s) (insn : Insn) (
   abbrev Given : StepEffect → Result refs.Effect Rule → Type 0
   Given = Sound subject s c insn begins
 
-  -- what a store leaves
+  -- continues after a store
   store_goes : (o : Option Memory) (places : List Abs) → IsStored subject a s c.agrees o places → Follows subject s c insn begins (meaning.after_store insn o s) (effect_on_both (record a { places = places }))
   store_goes o places r =
       subst (λ m. Follows subject s c insn begins (meaning.after_store insn m s) (effect_on_both (record a { places = places }))) (sym r.is)
       (goes_next subject s c insn begins (effect_on_both (record a { places = places })) s.registers r.memory on r.held r.agrees)
 
-  -- past the checks of a store
+  -- continues after the checks of a store
   store_past : (effect : StepEffect) (base : Reg) (by : ℤ) (len : ℕ) (y : Abs)
       → ((u : Unit {0}) (places : List Abs) → check_not_context (value_in a base.number) ≡ Ok u → reaches (limits_of subject) a.held (value_in a base.number) by len ≡ true → check_stored (byte_behind (value_in a base.number) by) len y a.places ≡ Ok places
       → Follows subject s c insn begins effect (effect_on_both (record a { places = places })))

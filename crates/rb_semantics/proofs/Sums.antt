@@ -1,4 +1,4 @@
--- Sums and differences are sound, of pointers too.
+-- Sums and differences are sound, including those that move pointers.
 use Rattle.std.proofs.Common.{◌≡◌, ℕ, ℤ, true, Some, None, sym, ap, subst, ◌∙◌, refl, Result, Ok}
 use Rattle.rb_insn.specs.declared.insn.Insn.{Insn}
 use Rattle.rb_insn.specs.declared.insn.BinaryOp.{BinaryOp}
@@ -40,7 +40,7 @@ module _ (subject : Subject) (s : State) (c : CanStep subject s) (insn : Insn) (
   abbrev Given : StepEffect → Result refs.Effect Rule → Type 0
   Given = IsGiven subject s c insn begins on
 
-  -- a pointer whose offset is moved to one within the bounds
+  -- a pointer that is moved to an offset within the bounds
   moved_sound : (dst : Reg) (place : MemoryRegion) (point : ℤ → Abs) (z : ℤ) (effect : StepEffect) → ((to : ℤ) → AgreesValue s.memory.records (point to) (Pointer place to)) → ((to : ℤ) → HasReference a.held (point to)) → effect ≡ meaning.gives insn dst (Pointer place z) s
       → Given effect ((check_near z >>= (λ to. Ok (point to))) >>= (λ v. Ok (table.assignment_effect dst v a)))
   moved_sound dst place point z effect h t e =
@@ -52,7 +52,7 @@ module _ (subject : Subject) (s : State) (c : CanStep subject s) (insn : Insn) (
       (subst (λ effect. Follows subject s c insn begins effect (table.assignment_effect dst (point z) a)) (sym e)
       (gives_sound subject s c insn begins dst (point z) (Pointer place z) on (h z) (t z) n.1)))
 
-  -- a function of two values that moves a pointer's offset by a number, and does arithmetic on numbers
+  -- a function of two values that moves a pointer by a number, or computes on two numbers
   module _ (f : Value → Value → StepEffect) (dst : Reg) (numbers : (n m : ℕ) → f (Number n) (Number m) ≡ meaning.execute_compute insn dst (Number n) (Number m) s) where
     sums_sound : (op : BinaryOp) (d : _) → direction_of W64 op ≡ Some d → ((place : MemoryRegion) (o : ℤ) (n : ℕ) → f (Pointer place o) (Number n) ≡ meaning.gives insn dst (Pointer place (moved_offset d o n)) s) → (x y : Abs) (v w : Value) → AgreesValue s.memory.records x v → HasReference a.held x → AgreesValue s.memory.records y w
         → Given (f v w) (check_arithmetic (Some d) insn x y >>= (λ z. Ok (table.assignment_effect dst z a)))

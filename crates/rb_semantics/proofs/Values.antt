@@ -1,4 +1,4 @@
--- What registers hold is as is known of them, after each change.
+-- The values of registers still agree with their abstract values after each change.
 use Rattle.std.proofs.Common.{◌≡◌, ◌≢◌, ℕ, true, false, List, [], ◌∷◌, ◌++◌, Some, None, map, filter, find, sym, ap, subst, ◌∙◌, inl, inr}
 use Rattle.rb_verifier.specs.declared.references.Reference.{Reference}
 use Rattle.rb_verifier.specs.declared.value.Abs.{Abs}
@@ -15,7 +15,7 @@ use Rattle.rb_semantics.proofs.Ids.{eq_cases, apart_earlier, found_apart, tested
 use Rattle.rb_semantics.proofs.Held.{Records}
 use Rattle.rb_semantics.proofs.Records.{named_push_other, named_without, reserved_with_bytes}
 
--- what is known less precisely
+-- a greater abstract value
 pub value_below : (rs : Records) (x y : Abs) (v : Value) → BelowValue x y → AgreesValue rs x v → AgreesValue rs y v
 value_below rs x y v b a =
     below_cases (λ x y. AgreesValue rs x v → AgreesValue rs y v) (λ x h. tt)
@@ -24,7 +24,7 @@ value_below rs x y v b a =
 pub tied_below : (held : List Reference) (x y : Abs) → BelowValue x y → HasReference held x → HasReference held y
 tied_below held x y b t = below_cases (λ x y. HasReference held x → HasReference held y) (λ x h. tt) (λ x n h. tt) (λ x h. h) x y b t
 
--- what a number is known to be
+-- the value of an abstract number
 pub number_value : (rs : Records) (x : Abs) (v : Value) → IsNumber x → AgreesValue rs x v → (n : ℕ) × (v ≡ Number n)
 number_value rs x v n = number_cases (λ x. AgreesValue rs x v → (n : ℕ) × (v ≡ Number n)) (λ h. h) (λ k h. (k, h)) x n
 
@@ -50,7 +50,7 @@ tied_pushed q held (abs.Ctx o) t = tt
 tied_pushed q held (abs.Stack o) t = tt
 tied_pushed q held (abs.Ring n) t = tt
 
--- other bytes
+-- other bytes in a record
 pub value_written : (m : ℕ) (b : List ℕ) (rs : Records) (x : Abs) (v : Value) → AgreesValue rs x v → AgreesValue (with_bytes m b rs) x v
 value_written m b rs (abs.Perhaps n) v a = a ∙ sym (reserved_with_bytes n m b rs)
 value_written m b rs abs.Unreadable v a = tt
@@ -84,7 +84,7 @@ tied_null m held (abs.Ctx o) h t = tt
 tied_null m held (abs.Stack o) h t = tt
 tied_null m held (abs.Ring n) h t = tt
 
--- it was a record
+-- a reservation was a record
 pub value_there : (m : ℕ) (b : List ℕ) (rs : Records) (x : Abs) (v : Value) → record_named m rs ≡ Some b → AgreesValue rs x v → AgreesValue rs (if_there m x) v
 value_there m b rs (abs.Perhaps n) v h a =
     elim (eq_cases n m) [ inl k ↦ rw k.0 (a ∙ ap (λ i. reserved_value i (record_named i rs)) k.1 ∙ ap (reserved_value m) h) | inr k ↦ rw k.0 a ]
@@ -117,7 +117,7 @@ tied_there m held (abs.Ctx o) t = tt
 tied_there m held (abs.Stack o) t = tt
 tied_there m held (abs.Ring n) t = tt
 
--- a record was given back
+-- a record was submitted or discarded
 pub value_given_back : (m : ℕ) (held : List Reference) (rs : Records) (x : Abs) (v : Value) → IsTested true (find (has_id m) held) → HasReference held x → AgreesValue rs x v → AgreesValue (without_record m rs) (if_given_back m x) v
 value_given_back m held rs (abs.Perhaps n) v h t a = let ne : n ≢ m = tested_apart m n held h t in rw (named_without n m rs ne) a
 value_given_back m held rs (abs.Record n o) v h t a = elim (eq_cases n m) [ inl k ↦ rw k.0 tt | inr k ↦ rw k.0 a ]

@@ -1,4 +1,4 @@
--- When the state of a program is as an annotation says (own profile).
+-- When the state of a program agrees with an annotation (own profile).
 use Rattle.std.specs.Prelude.{◌≡◌, ℕ, ◌*◌, ◌<◌, pos, Bool, true, false, List, [], ◌∷◌, Option, Some, None, find, length, take, drop, ◌⊎◌}
 use Rattle.byteorder.specs.Endian.{little_number}
 use Rattle.rb_verifier.specs.declared.references.Reference.{Reference}
@@ -17,12 +17,12 @@ use Rattle.rb_semantics.specs.StackPointers.{pointer_at}
 use Rattle.rb_semantics.specs.ProgramMemory.{Memory, record_named}
 use Rattle.rb_semantics.specs.ProgramStates.{State, register}
 
--- what a reservation gave: a pointer to its record, where that is held, and else null
+-- the value of a reservation: a pointer to its record if that is held, otherwise null
 abbrev pub reserved_value : ℕ → Option (List ℕ) → Value
 reserved_value id None = Number 0
 reserved_value id (Some bytes) = Pointer (Record id) (pos 0)
 
--- a register holds what is known of it, where these records are held
+-- a register's value agrees with an abstract value, given the records that are held
 abbrev pub AgreesValue : List (ℕ × List ℕ) → Abs → Value → Type 0
 AgreesValue records abs.Unreadable v = Unit {0}
 AgreesValue records abs.Number v = (n : ℕ) × (v ≡ Number n)
@@ -33,8 +33,8 @@ AgreesValue records (abs.Ring ring) v = v ≡ Ring ring
 AgreesValue records (abs.Perhaps id) v = v ≡ reserved_value id (record_named id records)
 AgreesValue records (abs.Record id offset) v = v ≡ Pointer (Record id) offset
 
--- the records that are held are those of the references, in their order and of their sizes; one of a reference that was
--- not tested against null may be missing
+-- the held records are those of the references, in the same order and with their sizes; the record of a reference that
+-- was not tested against null may be missing
 abbrev pub AreHeld : List Reference → List (ℕ × List ℕ) → Type 0
 AreHeld [] [] = Unit {0}
 AreHeld [] (r ∷ records) = ⊥
@@ -42,7 +42,7 @@ AreHeld (reference ∷ held) [] = (reference.sure ≡ false) × AreHeld held []
 AreHeld (reference ∷ held) (r ∷ records) =
     ((reference.id ≡ r.0) × (length r.1 ≡ reference.size) × AreHeld held records) ⊎ ((reference.sure ≡ false) × AreHeld held (r ∷ records))
 
--- a reservation that may be null belongs to a reference that was not tested, and a pointer to a record to one that was
+-- a reservation that may be null has a reference that was not tested, and a pointer to a record has one that was
 abbrev pub IsTested : Bool → Option Reference → Type 0
 IsTested sure None = ⊥
 IsTested sure (Some reference) = reference.sure ≡ sure
@@ -52,13 +52,13 @@ HasReference held (abs.Perhaps id) = IsTested false (find (has_id id) held)
 HasReference held (abs.Record id offset) = IsTested true (find (has_id id) held)
 HasReference held v = Unit {0}
 
--- offsets lie from -2^30 to 2^30, and rings are ones that the program knows
+-- offsets are within -2^30 to 2^30, and rings are ones that the program may use
 abbrev pub IsBoundedValue : ℕ → Value → Type 0
 IsBoundedValue rings (Pointer place offset) = is_near offset ≡ true
 IsBoundedValue rings (Ring ring) = ring < rings
 IsBoundedValue rings v = Unit {0}
 
--- what a load of a whole place gives: the pointer that it keeps, or else the number in its eight bytes
+-- the result of a load of a whole place: the pointer that it holds, or else the number in its eight bytes
 abbrev pub loaded_value : Option Value → List ℕ → Value
 loaded_value (Some v) bytes = v
 loaded_value None bytes = Number (little_number 8 bytes)
@@ -66,20 +66,21 @@ loaded_value None bytes = Number (little_number 8 bytes)
 abbrev pub value_at : ℕ → Memory → Value
 value_at place m = loaded_value (pointer_at place m.pointers) (take 8 (drop (8 * place) m.stack))
 
--- what a place keeps beside its bytes is no number, and within the bounds of what a register holds
+-- the pointer that a place holds besides its bytes is not a number, and is within the bounds of a register's value
 abbrev pub IsKeptPointer : ℕ → Value → Type 0
 IsKeptPointer rings (Pointer part offset) = IsBoundedValue rings (Pointer part offset)
 IsKeptPointer rings (Ring ring) = IsBoundedValue rings (Ring ring)
 IsKeptPointer rings v = ⊥
 
--- Each place of the stack is as is known of it, as a register is that loads it: one that has data keeps no pointer, one that is known to keep a
--- pointer keeps it, where null is eight bytes that are zero, and one of which nothing is known keeps anything.
+-- Each place of the stack agrees with its abstract value, as a register that loads it would: a place with data holds no
+-- pointer, a place with a known pointer holds it (or eight zero bytes, for a reservation that is null), and a place
+-- that is Unreadable may hold anything.
 pub record AgreesPlaces (rings : ℕ) (held : List Reference) (places : List Abs) (m : Memory) : Type 0 where
   pub values : (place : ℕ) → place < 64 → AgreesValue m.records (known_in places place) (value_at place m)
   pub tied : (place : ℕ) → place < 64 → HasReference held (known_in places place)
   pub pointers : (place : ℕ) (v : Value) → pointer_at place m.pointers ≡ Some v → IsKeptPointer rings v
 
--- a state is as is known of it
+-- a state agrees with an abstract state
 pub record Agrees (subject : Subject) (known : AbsState) (s : State) : Type 0 where
   pub count : length known.values ≡ length s.registers
   pub values : (r : ℕ) → AgreesValue s.memory.records (value_in known r) (register s r)

@@ -1,6 +1,6 @@
--- Programs that keep no pointer on the stack, and two laws on what the rows without kept pointers accept, by which a load gives a number,
--- a store takes one, and the bytes of an output are looked at no further (own profile): the whole table accepts it too, and it runs as
--- it did while no pointer was kept.
+-- Programs that keep no pointers on the stack: the plain rules, by which a load produces a number, a store takes one,
+-- and the bytes of an output are not checked further (own profile). Two laws: the full verifier accepts all that the
+-- plain rules accept, and such programs run as they did under them.
 use Rattle.std.specs.Prelude.{◌≡◌, ◌<◌, ℕ, zero, suc, ℤ, pos, List, Option, Some, None, Result, Ok, length}
 use Rattle.byteorder.specs.Endian.{little_number}
 use Rattle.rb_insn.specs.declared.insn.Insn.{Insn}
@@ -31,7 +31,7 @@ use Rattle.rb_semantics.specs.HelperCalls.{HelperAnswer}
 use Rattle.rb_semantics.specs.Instructions.{StepEffect, Stuck, execute, execute_load, execute_store}
 use Rattle.rb_semantics.specs.ProgramRuns.{IsStuck, Run, run_ended, run_followed, run_of}
 
--- a load of so many bytes gives a number
+-- a load of `len` bytes produces a number
 abbrev pub plain_load : Limits → Reg → Reg → ℤ → ℕ → AbsState → Result Effect Rule
 plain_load limits dst base offset len s = do
   _ ← check_writable dst
@@ -39,7 +39,7 @@ plain_load limits dst base offset len s = do
   _ ← check_inside limits s.held (value_in s base.number) offset len
   Ok (assignment_effect dst Number s)
 
--- a store of so many bytes takes a number
+-- a store of `len` bytes takes a number
 abbrev pub plain_store : Limits → Reg → ℤ → ℕ → Abs → AbsState → Result Effect Rule
 plain_store limits base offset len v s = do
   _ ← check_tested (value_in s base.number)
@@ -63,7 +63,7 @@ abbrev pub plain_call : Limits → ℕ → Option Helper → AbsState → Result
 plain_call limits unit (Some helper.Output) s = plain_output limits s
 plain_call limits unit called s = check_call limits unit called s
 
--- the table without kept pointers: all other rows are the same
+-- the abstract step by the plain rules; all other instructions are the same
 abbrev pub plain_step : Limits → ℕ → Insn → AbsState → Result Effect Rule
 plain_step limits unit (Load size dst base offset) s = plain_load limits dst base offset (byte_count size) s
 plain_step limits unit (LoadSigned size dst base offset) s = plain_load limits dst base offset (signed_byte_count size) s
@@ -72,26 +72,26 @@ plain_step limits unit (StoreRegister size base offset src) s = plain_store limi
 plain_step limits unit (Call number) s = plain_call limits unit (helper_of number) s
 plain_step limits unit insn s = abstract_step limits unit insn s
 
--- the checks of that table hold at a unit, and along each edge the effect is below the next unit's state
+-- the plain checks hold at a unit, and along each edge, the effect is below the next unit's state
 pub record HoldsPlainly (limits : Limits) (a : Annotation) (bound unit : ℕ) (insn : Insn) : Type 0 where
   pub effect : Effect
   pub checks : plain_step limits unit insn (a unit) ≡ Ok effect
   pub edges : (along : Edge) (to : ℕ) → edge_target unit insn along ≡ Some to → to < bound → Below (along_edge along effect) (a to)
 
--- an annotation that is valid by that table, and says of each place that it has data
+-- an annotation that is valid by the plain rules, and has data in each place
 pub record IsPlainlyValid (limits : Limits) (program : List Insn) (a : Annotation) : Type 0 where
   pub places : (unit : ℕ) → (a unit).places ≡ all_data
   pub entry : 0 < unit_count program → Below entry_state (a 0)
   pub each : (unit : ℕ) (insn : Insn) → unit < unit_count program → slot_at program unit ≡ Some insn → HoldsPlainly limits a (unit_count program) unit insn
 
--- it is valid by the whole table too
+-- it is valid by the full rules, too
 abbrev pub PlainAnnotationsAreValid : Type 0
 PlainAnnotationsAreValid = (limits : Limits) (program : List Insn) (a : Annotation) → IsPlainlyValid limits program a → IsValid limits program a
 
--- ---- runs without kept pointers
+-- ---- runs without pointers on the stack
 
--- What an instruction does where no pointer is kept: a load gives the number in some bytes, and a store of a register takes a number. All
--- other rows are the same. No row keeps a pointer, so none is ever found among bytes.
+-- The plain meaning of an instruction: a load produces the number in the given bytes, and a store of a register takes a
+-- number. All other instructions are the same. None stores a pointer, so none is ever found among the bytes.
 abbrev pub plain_execute : Insn → State → StepEffect
 plain_execute (Load size dst base offset) s =
     execute_load (Load size dst base offset) dst (little_number (byte_count size)) (pointed s.memory (register s base.number) offset (byte_count size)) s
@@ -103,13 +103,13 @@ abbrev pub plain_execute_at : Option Insn → State → StepEffect
 plain_execute_at None s = Stuck
 plain_execute_at (Some insn) s = plain_execute insn s
 
--- the run of a program from a state, with so many steps at most, under these answers
+-- the run of a program from a state, with at most this many steps, under these answers
 abbrev pub plain_run_of : List Insn → ℕ → State → List HelperAnswer → Run
 plain_run_of program zero s answers = run_ended IsStuck
 plain_run_of program (suc steps) s answers = run_followed (plain_run_of program steps) (plain_execute_at (slot_at program s.unit) s) answers
 
--- a program of which an annotation is valid by the table without kept pointers makes the same calls, with the same bytes, and ends alike
--- by both meanings, for the same answers
+-- a program with an annotation that is valid by the plain rules makes the same calls, with the same bytes, and ends in
+-- the same way under both meanings, for the same answers
 abbrev pub PlainProgramsRunAlike : Type 0
 PlainProgramsRunAlike =
     (subject : Subject) (a : Annotation) (context : List ℕ) (steps : ℕ) (answers : List HelperAnswer) → IsWellShaped subject.program → IsInstructionStart subject.program 0

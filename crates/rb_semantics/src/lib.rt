@@ -1,10 +1,13 @@
-//! What programs mean, one instruction at a time and as whole runs, for interpreters and for whoever reasons about
-//! programs: `specs/Instructions.antt` for the instructions (RFC 9669), `specs/HelperCalls.antt` for the calls
-//! (bpf-helpers(7)), `specs/ProgramRuns.antt` for runs. The laws are contracts here: a verified program never gets stuck
-//! (`steps_are_sound`), ends, and gives every record back that it was granted (`verified_programs_end_well`); and the
-//! memory keeps what is stored, bytes and pointers (`bytes_written_are_read`, `pointers_stored_are_found`). What the
-//! RFC leaves open is this project's own profile. There is no body to run: the types are those that the definitions
-//! share with code.
+//! The meaning of eBPF programs, of one instruction and of whole runs, for interpreters and for proofs about programs.
+//!
+//! `specs/Instructions.antt` defines the instructions (RFC 9669), `specs/HelperCalls.antt` the helper calls
+//! (bpf-helpers(7)), and `specs/ProgramRuns.antt` the runs. What the RFC leaves open is this project's own profile.
+//!
+//! The laws are contracts here. A verified program never gets stuck (`steps_are_sound`), terminates, and submits or
+//! discards every record that it was granted (`verified_programs_end_well`). Memory keeps what is stored, both bytes
+//! and pointers (`bytes_written_are_read`, `pointers_stored_are_found`).
+//!
+//! This crate has no code to run; its types are those that the definitions share with code.
 #![tactic(auto)]
 
 mod memory_laws;

@@ -2,27 +2,28 @@
 
 ghost use Rattle.rb_semantics.specs.MemoryLaws.{BytesWrittenAreRead, PointersAreNotRead, PointersStoredAreFound, PointersStoredLeaveZeros, WritesTakePointersOut};
 
-/// Bytes that were written are read, whatever pointers were kept among them.
+/// The law that a read returns the bytes that were written, even if they overwrote pointers.
 pub fn bytes_written_are_read()
     ensures { BytesWrittenAreRead }
 {}
 
-/// A write on the stack takes the pointer out of each place that it touches, and leaves those of the others.
+/// The law that a write to the stack removes the pointer from each place that it overlaps, and keeps the pointers of
+/// all other places.
 pub fn writes_take_pointers_out()
     ensures { WritesTakePointersOut }
 {}
 
-/// A pointer that was stored at a place of the stack is found there.
+/// The law that a load finds the pointer that was stored at a place of the stack.
 pub fn pointers_stored_are_found()
     ensures { PointersStoredAreFound }
 {}
 
-/// The bytes of a place at which a pointer was stored are zeros.
+/// The law that a place has zero bytes after a pointer was stored there.
 pub fn pointers_stored_leave_zeros()
     ensures { PointersStoredLeaveZeros }
 {}
 
-/// No bytes of a place that has a pointer are read.
+/// The law that no read returns bytes of a place that holds a pointer.
 pub fn pointers_are_not_read()
     ensures { PointersAreNotRead }
 {}

@@ -1,14 +1,14 @@
-//! What a call waits for.
+//! What a pending helper call waits for.
 
-/// What a call waits for.
+/// What a pending helper call waits for.
 #[derive(Clone, Copy, Debug, PartialEq, Eq)]
 pub enum PendingCall {
-    /// A record of so many bytes, or null.
+    /// A record of this many bytes, or null.
     Reserve(u32),
-    /// That a record was taken, or that it is handed back.
+    /// Whether a record was taken or is handed back.
     GiveBack,
-    /// The code that an output answers.
+    /// The return code of an output.
     Output,
-    /// The number that a query answers.
+    /// The number that a query returns.
     Query,
 }

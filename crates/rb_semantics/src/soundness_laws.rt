@@ -4,42 +4,52 @@ ghost use Rattle.rb_semantics.specs.PlainPrograms.{PlainAnnotationsAreValid, Pla
 ghost use Rattle.rb_semantics.specs.RunEndings.{ProgramsCanStart, RunsCallOnce, RunsEndWell, VerifiedProgramsEndWell};
 ghost use Rattle.rb_semantics.specs.Soundness.{StepsAreSound};
 
-/// From a state that agrees with a valid annotation each step has a meaning. It leads to a later unit and to such a state, or
-/// makes a call after each answer to which the program is in such a state, or ends the program with no record held.
+/// The law that each step from a state that agrees with a valid annotation has a meaning.
+///
+/// The step leads to such a state at a later unit, makes a call after which the program is in such a state for every
+/// answer, or ends the program with no record held.
 pub fn steps_are_sound()
     ensures { StepsAreSound }
 {}
 
-/// A verified program begins in a state that agrees with its annotation, where the context has its length.
+/// The law that a verified program starts in a state that agrees with its annotation, if the context has the right
+/// length.
 pub fn programs_can_start()
     ensures { ProgramsCanStart }
 {}
 
-/// From such a state, under answers of the kinds that its calls wait for, a run is never stuck; where it returns a result, as
-/// many records were submitted and discarded as were held and granted.
+/// The law that a run from such a state is never stuck, if each call gets an answer of the kind that it waits for.
+///
+/// If the run returns a result, it has submitted or discarded every record that was held at its start or granted since.
 pub fn runs_end_well()
     ensures { RunsEndWell }
 {}
 
-/// The run of a verified program over a context of its length, under answers of the kinds that its calls wait for, is never
-/// stuck; where it returns a result, as many records were submitted and discarded as were granted.
+/// The law that the run of a verified program over a context of the right length is never stuck, if each call gets an
+/// answer of the kind that it waits for.
+///
+/// If the run returns a result, it has submitted or discarded every record that it was granted.
 pub fn verified_programs_end_well()
     ensures { VerifiedProgramsEndWell }
 {}
 
-/// From such a state a run makes no more calls than there are CALL instructions from its unit on.
+/// The law that a run from such a state makes no more calls than there are CALL instructions from its unit on.
 pub fn runs_call_once()
     ensures { RunsCallOnce }
 {}
 
-/// What the table of verification accepted while no pointer was kept on the stack, it accepts: an annotation that is valid by the
-/// rows by which a load gives a number and a store takes one, and that says of each place of the stack that it has data, is valid.
+/// The law that the verifier accepts every program that it accepted before it supported pointers on the stack.
+///
+/// An annotation is valid if it is valid under the plain rules, by which a load produces a number and a store takes
+/// one, and if it has data in every place of the stack.
 pub fn plain_annotations_are_valid()
     ensures { PlainAnnotationsAreValid }
 {}
 
-/// And what it accepted runs as it did: by the meaning in which a load gives a number and a store takes one, and by the whole meaning, such
-/// a program makes the same calls with the same bytes and ends alike, for the same answers.
+/// The law that the programs accepted by the plain rules run as they did before.
+///
+/// Under the plain meaning, in which a load produces a number and a store takes one, and under the full meaning, such a
+/// program makes the same calls with the same bytes and ends in the same way, for the same answers.
 pub fn plain_programs_run_alike()
     ensures { PlainProgramsRunAlike }
 {}

@@ -1,6 +1,6 @@
-//! What registers hold.
+//! The values that registers hold.
 
-/// A part of the memory that a program reaches.
+/// A part of the memory that a program can access.
 #[derive(Clone, Copy, Debug, PartialEq, Eq)]
 pub enum MemoryRegion {
     /// The stack: 512 bytes, at offsets -512 to -1.
@@ -11,15 +11,15 @@ pub enum MemoryRegion {
     Record(u32),
 }
 
-/// What a register holds.
+/// The value of a register.
 #[derive(Clone, Copy, Debug, PartialEq, Eq)]
 pub enum Value {
-    /// Nothing; it can't be read.
+    /// No value; the register can't be read.
     Nothing,
-    /// A number of 64 bits.
+    /// A 64-bit number.
     Number(u64),
-    /// A pointer to an offset of a part, in bytes. The offset may lie outside the part.
+    /// A pointer to an offset of a part, in bytes. The offset may be outside the part.
     Pointer(MemoryRegion, i64),
-    /// The ring of this number.
+    /// The ring with this number.
     Ring(u32),
 }

@@ -1,4 +1,4 @@
--- What each call of the ring of one thread ensures, as one relation by its answer.
+-- What each call of the ring of one thread ensures, as one relation by its result.
 use Rattle.std.proofs.Common.{◌≡◌, ◌≢◌, ℕ, ◌<◌, ◌≤◌, List, length, Result, Ok, Err, IfOk, IfErr, replicate, ◌↔◌}
 use Rattle.std.specs.Prelude.{OnOk}
 use Rattle.rb_history.specs.declared.answers.Notice.{Notice}

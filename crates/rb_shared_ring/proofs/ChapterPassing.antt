@@ -17,7 +17,7 @@ use Rattle.rb_ledger.proofs.ChapterSteps.{has-same, handed-out-same, calls-may-p
 use Rattle.rb_shared_ring.specs.inner.SeatPasses.{seen_by, bytes_by, room_by, handed_out_by, known_as, IsIdleIn}
 use Rattle.rb_shared_ring.specs.inner.LentState.{IsKeptRing}
 
--- what one role's pass knows once it has the state out
+-- what a pass with one role knows while it holds the state
 pub record HeldChapter (role : Role) (v : ChapterPassView) (r : ChapterRing) (w : ChapterPassView) : Type 0 where
   pub taken : ChapteredRing
   pub ring_is : taken.ring ≡ r
@@ -43,11 +43,11 @@ held-in role v r w idle took =
 some-chaptered : (x y : ChapteredRing) → ◌≡◌ {A = Option ChapteredRing} (Some x) (Some y) → x ≡ y
 some-chaptered x y e = cc
 
--- what is out with the pass is what it holds
+-- the state that is out with the pass is the one that it holds
 pub held-is-out : (role : Role) (v : ChapterPassView) (r : ChapterRing) (w : ChapterPassView) (h : HeldChapter role v r w) (c : ChapteredRing) → w.out ≡ Some c → h.taken ≡ c
 held-is-out role v r w h c is = some-chaptered h.taken c (sym (ap (λ (x : ChapterPassView). x.out) h.now) ∙ is)
 
--- what a call does from the ring that it was shown to the one that it left
+-- what a call does, from the ring that it was given to the one that it left
 pub called-in : (Call : ChapterRing → ChapterRing → Type 0) (shown old left new : ChapterRing) → shown ≡ old → left ≡ new → Call shown left → Call old new
 called-in Call shown old left new is_old is_new call = subst (λ r. Call r new) is_old (subst (Call shown) is_new call)
 
@@ -68,7 +68,7 @@ module _ (role : Role) (v : ChapterPassView) (r new : ChapterRing) (w : ChapterP
   may-put-in step = subst (λ x. MayPutChapter x new) (sym h.now) (calls-may-put (known_as role v) h.taken new h.was_ring.has_chapters same-taken kept.legal kept.room (step left-ring.is_ring))
 
   module _ (after : ChapterPassView) (put : PutsChapterState w new after) where
-    -- the pass once the state is back
+    -- the pass after the state was put back
     back-in : after ≡ chapter_view (record {
       whole = knowledge_after (whole_of h.taken) (whole_of left_by) (role_knowledge role (seen_by v) (bytes_by v));
       room = room_by v;

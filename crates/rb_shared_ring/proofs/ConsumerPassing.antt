@@ -1,4 +1,4 @@
--- A call of the consumer under the lock: that the state may be put back, and what the consumer's pass knows then.
+-- A call of the consumer under the lock: the state may be put back, and what the consumer's pass knows afterwards.
 use Rattle.std.proofs.Common.{◌≡◌, ℕ, List, [], ◌∷◌, ◌++◌, None, length, drop, inl, inr, refl, sym, ap, ◌∙◌, subst, arith, ◌<◌, ◌^◌}
 use Rattle.rb_history.specs.declared.entries.Entry.{Entry}
 use Rattle.rb_history.specs.declared.answers.Taken.{Taken}
@@ -141,7 +141,7 @@ module _ (v : ChapterPassView) (r new : ChapterRing) (out : ChapterPassView) (id
 
   -- ---- a chapter is handed out
 
-  -- the ring may go on in a chapter that fits what the pass knows of it
+  -- the ring may continue in a chapter that fits what the pass knows about the ring
   pub goes-on-in : (empty : Chapter) (p : ChapterRing) → p ≡ r → empty.entries ≡ [] → empty.room ≡ room_by v → empty.opening.setup.workers ≡ (seen_by v).setup.workers → length (handed_out_by v) < 2 ^ 62 → MayGoOnIn p empty
   goes-on-in empty p is none room workers number =
       let h = held-in Consumer v r out idle took in

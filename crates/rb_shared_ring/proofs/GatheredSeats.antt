@@ -14,7 +14,8 @@ use Rattle.rb_ledger.specs.HandedOut.{IsCutOf, KnewHandedOut}
 use Rattle.rb_shared_ring.specs.inner.SeatPasses.{known_as}
 use Rattle.rb_shared_ring.specs.inner.HandPasses.{seen_with, bytes_with, cut_by, known_with}
 
--- the pass has the roles of the seats that are gone, in front of those that it had first; with those of the seats that are there they are all
+-- the pass has the roles of the seats that were moved into it, before those that it had initially; with the roles of
+-- the remaining seats they are all roles
 abbrev pub HasGathered : List WorkerSeat → HandPassView → HandPassView → List RoleKnowledge → Type 0
 HasGathered items v first all =
     (ks : List ChapterKnowledge) × (without_hands v ≡ chapter_view (ks ++ (without_hands first).knows) (without_hands first).out) × (roles_of items ++ whole_knowledge ks ≡ all)
@@ -34,7 +35,8 @@ gather-more items rest s v own after first all cut is_own seen bytes is_after ol
       (λ i. roles_of rest ++ role_knowledge (Worker s.worker) (seen i) (bytes i) ∷ whole_knowledge ks) ∙ ap (λ (y : PassView). y.knows) step ∙ old.2,
     )
 
--- by what all roles of the pass know, what the seats that are gone knew to be handed out had been, where that is so of those that are there
+-- if the entries that the remaining seats knew to be handed out had been, so had those of the seats in the pass, by
+-- what all roles of the pass know
 abbrev pub HasKnown : List WorkerSeat → HandPassView → List WorkerSeat → Type 0
 HasKnown items v all = (room : ℕ) (handed_out : List Chapter) (book : HandBook) → AllKnowHands room handed_out book v.knows → KnewHandedOut handed_out items → KnewHandedOut handed_out all
 

@@ -1,4 +1,4 @@
--- A call under the lock of a ring with hands: that the state may be put back, and what the pass knows then.
+-- A call under the lock of a ring with hands: the state may be put back, and what the pass knows afterwards.
 use Rattle.std.proofs.Common.{◌≡◌, ℕ, ◌<◌, ◌≤◌, inl, inr, [], ◌∷◌, Option, Some, None, length, set, refl, sym, ap, ◌∙◌, subst}
 use Rattle.std.proofs.lemmas.Bool.{cases_lt}
 use Rattle.std.proofs.lemmas.List.{get_or_past}
@@ -33,15 +33,15 @@ use Rattle.rb_shared_ring.specs.inner.LentState.{IsKeptHandRing}
 use Rattle.rb_shared_ring.proofs.ChapterPassing.{held-in, seen-in}
 use Rattle.rb_shared_ring.proofs.WorkerPassing.{LeavesWorker}
 
--- what a call does from the ring that it was shown to the one that it left
+-- what a call does, from the ring that it was given to the one that it left
 pub called-in-hands : (Call : HandRing → HandRing → Type 0) (shown old left new : HandRing) → shown ≡ old → left ≡ new → Call shown left → Call old new
 called-in-hands Call shown old left new is_old is_new call = subst (λ r. Call r new) is_old (subst (Call shown) is_new call)
 
--- the state that was taken out is the one that a call is lent
+-- the state that was taken out is the one that is lent to a call
 pub took-lent : (v : HandPassView) (lent held : HandRing) (out : HandPassView) → lent ≡ held → TakesHandState v held out → TakesHandState v lent out
 took-lent v lent held out is took = subst (λ r. TakesHandState v r out) (sym is) took
 
--- ---- a pass of any role
+-- ---- a pass with any role
 
 module _ (role : Role) (v : HandPassView) (r : HandRing) (out : HandPassView) (idle : IsIdleWith role v) (took : TakesHandState v r out) where
   pub chapter-idle : IsIdleIn role (without_hands v)
@@ -70,7 +70,7 @@ module _ (role : Role) (v : HandPassView) (r : HandRing) (out : HandPassView) (i
       others = subst (λ b. LeavesOtherHands role b new.hands) (ap (λ (x : HandRing). x.hands) (sym took.ring_is)) others;
     }
 
-    -- where the call left all hands
+    -- if the call left all hands unchanged
     pub may-put-same : IsKeptHandRing new → MayPutChapter (without_hands out) new.ring → new.hands ≡ r.hands → MayPutHands out new
     may-put-same kept chapters same = may-put kept chapters (λ w apart. ap (λ b. hands_of b w) same)
 
@@ -103,7 +103,7 @@ pub record LeavesSeat (w : ℕ) (v after : HandPassView) (sent : Contents) (hand
   pub cut : cut_by v ≤ cut_by after
 
 module _ (w : ℕ) (v : HandPassView) (r : HandRing) (out : HandPassView) (idle : IsIdleWith (Worker w) v) (took : TakesHandState v r out) where
-  -- the book has what the pass shows
+  -- the book contains what the pass shows
   pub shown : hands_by v ≡ hands_of r.hands w
   shown = (knows-taken (Worker w) v r out idle took).hands_are w refl ∙ ap (λ (x : HandRing). hands_of x.hands w) took.ring_is
 
@@ -125,7 +125,7 @@ module _ (w : ℕ) (v : HandPassView) (r : HandRing) (out : HandPassView) (idle 
     | inr far ↦ absurd (none-some o (sym (get_or_past (hands_by v) hand None (subst (λ n. n ≤ hand) (sym (ap length shown ∙ (has-hands (Worker w) v r out idle took).shaped.four w worker-low)) far)) ∙ at))
   ]
 
-  -- the worker's hands once one of them was changed
+  -- the worker's hands after one of them was changed
   pub hand-changed : (new : HandRing) (hand : ℕ) (x : Option OutRecord) → hand < 4 → new.hands ≡ with_hand r.hands w hand x → hands_of new.hands w ≡ set (hands_by v) hand x
   hand-changed new hand x low is =
       ap (λ b. hands_of b w) is
@@ -147,7 +147,7 @@ module _ (w : ℕ) (v : HandPassView) (r : HandRing) (out : HandPassView) (idle 
         let here : IsSameChapter took.taken.chaptered.ring new.ring = subst (λ x. IsSameChapter x new.ring) (sym (ap (λ (x : HandRing). x.ring) took.ring_is)) same in
         cut-after (Worker w) v r out idle took new after put ∙ ap (λ hs. length (joined hs)) (handed-out-same took.taken.chaptered new.ring here)
 
-    -- the hands that the pass then shows are its worker's busy records in what it has seen
+    -- the hands that the pass then shows hold its worker's busy records in the history that it has seen
     holds-after : HoldsOwnBusy (hands_by after) w (seen_with after).history
     holds-after =
         let h = held-in (Worker w) (without_hands v) r.ring (without_hands out) (chapter-idle (Worker w) v r out idle took) took.chapters in
@@ -159,7 +159,7 @@ module _ (w : ℕ) (v : HandPassView) (r : HandRing) (out : HandPassView) (idle 
         let seen : seen_with after ≡ b = seen-in (Worker w) (without_hands v) r.ring new.ring (without_hands out) h same kept.kept (without_hands after) (put-chapter (Worker w) v r out idle took new after put) in
         subst (λ hs. HoldsOwnBusy hs w (seen_with after).history) (sym hands-after) (subst (λ (x : Book). HoldsOwnBusy (hands_of new.hands w) w x.history) (sym seen) own)
 
-    -- by what the call left without hands
+    -- from what the call left, without hands
     pub leaves-seat : (sent : Contents) (Call : ChapterRing → ChapterRing → Type 0) (hands : Hands) → LeavesWorker w (without_hands v) (without_hands after) took.taken.chaptered sent Call → hands_of new.hands w ≡ hands → LeavesSeat w v after sent hands Call
     leaves-seat sent Call hands e are = record {
       idle = idle-after (Worker w) v r out idle took new after put;

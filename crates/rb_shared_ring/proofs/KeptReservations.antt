@@ -1,4 +1,4 @@
--- What the clauses of a seat's calls say together of its reservations.
+-- What the clauses of a seat's calls together imply for its reservations.
 use Rattle.std.proofs.Common.{◌≡◌, ◌≢◌, ℕ, ◌<◌, List, length, replicate, set, get_or, Result, Ok, Err, Option, Some, None, refl, sym, ap, ◌∙◌, subst, inl, inr, get_or-set_same, get_or-set_other}
 use Rattle.std.specs.Prelude.{◌⊎◌, IsOk}
 use Rattle.std.proofs.lemmas.Bool.{cases_eq}
@@ -13,7 +13,7 @@ use Rattle.rb_ledger.specs.NoStranger.{HoldsOwnBusy, IsHeld}
 use Rattle.rb_shared_ring.specs.SharedCalls.{IsInSeatsHand}
 use Rattle.rb_shared_ring.specs.KeptReservations.{IsReserve, IsGivingBack, LeavesHands, KeepsOut, KeepsOutElsewhere, ReservationsAreKept}
 
--- a hand that is out is another one than a hand that is free
+-- a hand that is out differs from a hand that is free
 apart : (hands : Hands) (h g : ℕ) (o : OutRecord) → in_hand hands h ≡ None → in_hand hands g ≡ Some o → g ≢ h
 apart hands h g o free out same = let no : None ≡ Some o = sym free ∙ ap (in_hand hands) (sym same) ∙ out in absurd (cc)
 
@@ -24,7 +24,7 @@ same-tags a b not = elim (cases_eq a b) [
 ]
 
 module _ (ring : Shared) (old new : WorkerSeat) where
-  -- the same seat has the reservation in its hand, where the hand is as it was
+  -- the same seat has the reservation in its hand if the hand did not change
   stays : IsSameSeat old new → (r : HandGranted) → in_hand new.hands r.hand ≡ in_hand old.hands r.hand → IsInSeatsHand ring old r → IsInSeatsHand ring new r
   stays same r hand held = record {
     seat_is = same.tag_same ∙ held.seat_is;

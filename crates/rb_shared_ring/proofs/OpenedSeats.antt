@@ -1,4 +1,4 @@
--- The seats that are cut off a lock that was just opened.
+-- The seats that are split off a lock that was just opened.
 use Rattle.std.proofs.Common.{◌≡◌, ℕ, zero, suc, ◌+◌, ◌-◌, ◌<◌, [], ◌∷◌, Some, None, refl, sym, ap, ◌∙◌, subst, arith}
 use Rattle.std.specs.FinMap.{empty}
 use Rattle.rb_history.specs.RoomRule.{Setup}
@@ -23,7 +23,7 @@ use Rattle.rb_ledger.specs.NoStranger.{HoldsOwnBusy}
 use Rattle.rb_shared_ring.specs.inner.HandPasses.{seen_with, room_with}
 use Rattle.rb_shared_ring.specs.inner.LentState.{IsKeptRing}
 
--- the ring that was just made is one with its first chapter, and its contents are empty
+-- a new ring is one with its first chapter, and its contents are empty
 pub first-ring : (r : ChapterRing) (room : ℕ) (s : Setup) → r ≡ opened_ring room s → IsKeptRing r → IsChapteredRing (chaptered_ring [] r) × (r.contents ≡ empty)
 first-ring r room s is kept =
     let opening : r.chapter.opening ≡ empty_ring r.chapter.opening.setup =
@@ -63,7 +63,7 @@ next-worker b room i n v low is =
     let here : v ≡ hand_view (opening_hands (opening_role (Worker i) b room) ∷ opening_worker_hands b room (i + 1) (n - (i + 1))) None = is ∙ ap (λ k. hand_view (opening_worker_hands b room i k) None) more in
     subst (NextWorker b room i n) (sym here) (record { first_is = refl; seen_is = refl; room_is = refl; rest_is = refl })
 
--- free hands are the busy records of a history without entries
+-- free hands hold the busy records of a history without entries
 free-holds : (w : ℕ) → HoldsOwnBusy free_hands w []
 free-holds w = record {
   out_is_busy = λ g o at. absurd (none-there g o at);

@@ -1,4 +1,5 @@
--- Each call of a worker's seat by the ring's chapter is the call over the whole history, with the room that the chapter has.
+-- Each call with a worker's seat, by the ring's chapter, is the call over the whole history with the room that the
+-- chapter has.
 use Rattle.std.proofs.Common.{◌≡◌, ◌↔◌, ℕ, ◌<◌, List, length, ap, ◌∙◌, sym, subst, Result, Ok, Err}
 use Rattle.rb_history.specs.declared.entries.Entry.{Entry}
 use Rattle.rb_history.specs.declared.answers.Notice.{Notice}

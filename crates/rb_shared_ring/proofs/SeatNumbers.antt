@@ -1,4 +1,4 @@
--- A worker's numbers after each call on a shared ring over chapters.
+-- A worker's counts after each call on a shared ring.
 use Rattle.std.proofs.Common.{◌≡◌, ℕ, ◌<◌, ◌≤◌, ◌^◌, List, length, sym, ap, ◌∙◌, subst, arith, Result, Ok, Err, IfOk}
 use Rattle.rb_history.specs.declared.answers.Notice.{Notice}
 use Rattle.rb_history.specs.declared.tally.Tally.{Tally}
@@ -43,7 +43,7 @@ use Rattle.rb_shared_ring.proofs.WholeAnswers.{tally-reserved, tally-output, res
 pub book-in : (role : Role) (b a : Book) (Call : ChapteredRing → ChapteredRing → Type 0) → LockedChapterCall role b a Call → IsBook a
 book-in role b a Call t = subst IsBook (sym t.seen) (ring-book (whole_of t.left) t.is_ring.is_ring)
 
--- a seat's numbers fit 64 bits, and so do they with one more
+-- a seat's counts fit in 64 bits, also after one more
 pub record AreLow (t : Tally) : Type 0 where
   pub made : t.made ≤ 2 ^ 62
   pub submitted : t.submitted ≤ 2 ^ 62
@@ -60,14 +60,14 @@ tied-low w t b book ties =
     let low = spans-low b.setup h book.legal in
     record { made = omega (arith, made, granted, low); submitted = omega (arith, submitted, most, granted, low); discarded = omega (arith, discarded, most, granted, low) }
 
--- a seat's hands after a call are those that its pass shows then
+-- a seat's hands after a call are those that its pass then shows
 pub keeps-hands : (before after : HandPassView) (w : ℕ) (old new : Hands) → KeepsHands before w old → hands_by after ≡ new → length new ≡ 4 → HoldsOwnBusy (hands_by after) w (seen_with after).history → KeepsHands after w new
 keeps-hands before after w old new keeps shows four holds = record { shows = shows; four = four; holds = subst (λ hs. HoldsOwnBusy hs w (seen_with after).history) shows holds }
 
 -- ---- for a seat, from what it had seen to what it has seen
 
 module _ (w : ℕ) (t : Tally) (b a : Book) (ties : Ties w t b) where
-  -- at the point where the call was made the seat's numbers are the worker's totals
+  -- at the point of the call the seat's counts are the worker's totals
   tally-there : (Call : ChapterRing → ChapterRing → Type 0) (c : LockedChapterCall (Worker w) b a (InOneChapter Call)) → t ≡ tally_from c.point.ring.chapter.opening w c.point.ring.chapter.entries
   tally-there Call c =
       let there = ties-goes w t b (book_of (whole_of c.point)) c.goes_on c.was_ring.is_ring.legal ties in
@@ -123,7 +123,7 @@ module _ (w : ℕ) (t : Tally) (b a : Book) (ties : Ties w t b) where
   pub query-tied : (what n : ℕ) → LockedChapterCall (Worker w) b a (InOneChapter (QueriesInChapter what n)) → Ties w t a
   query-tied what n c = query-ties w t b a what n (call-whole (Worker w) b a (QueriesInChapter what n) (Queries what n) (λ earlier old new is x. queries-whole earlier old new is what n x) c) ties
 
-  -- an audit: the ring is as it was
+  -- an audit leaves the ring as it was
   module _ (x : Audit) (c : LockedChapterCall (Worker w) b a (InOneChapter (AuditsInChapter w x))) where
     pub audit-tied : Ties w t a
     audit-tied =
@@ -134,6 +134,6 @@ module _ (w : ℕ) (t : Tally) (b a : Book) (ties : Ties w t b) where
     pub audit-own : x.own ≡ t
     audit-own = c.called.1.own_is ∙ sym (tally-there (AuditsInChapter w x) c)
 
--- the totals that a chapter keeps are one for each worker
+-- a chapter has totals for each worker
 pub totals-long : (c : Chapter) → length (closing_of c).tallies ≡ c.opening.setup.workers
 totals-long c = length-map (numbers_below c.opening.setup.workers) (λ w. tally_from c.opening w c.entries) ∙ length-below c.opening.setup.workers

@@ -1,4 +1,5 @@
--- Each call of a worker's seat under the lock: that the state may be put back with its hands, and what the seat's pass knows then.
+-- Each call with a worker's seat under the lock: the state may be put back with its hands, and what the seat's pass
+-- knows afterwards.
 use Rattle.std.proofs.Common.{◌≡◌, ℕ, ◌<◌, List, Some, None, set, refl, ap, ◌∙◌, Result, Ok, Err, IfOk}
 use Rattle.rb_history.specs.declared.answers.Notice.{Notice}
 use Rattle.rb_chapter_ring.specs.ChapterCalls.{producer_by_chapter}
@@ -24,7 +25,7 @@ use Rattle.rb_shared_ring.proofs.WholeAnswers.{stays, same-reserved, same-output
 use Rattle.rb_shared_ring.proofs.WorkerPassing as chapter
 use Rattle.rb_shared_ring.proofs.HandPassing.{LeavesSeat, chapter-idle, chapter-out, put-chapter, may-put-same, may-put-changed, hand-changed, hands-same, leaves-seat}
 
--- the same refusal, of what was granted without its hand
+-- the same refusal, without the hand of what was granted
 pub refused-in : (fault : ReserveFault) (a : Result HandGranted (ReserveFault × List ℕ)) → IsRefusedInRoomAs fault a → IsRefusedInRoomAs fault (granted_in a)
 refused-in fault (Ok r) is = is
 refused-in fault (Err e) is = is
@@ -33,17 +34,17 @@ pub serial-in-hand : (made : ℕ) (a : Result HandGranted (ReserveFault × List 
 serial-in-hand made (Ok r) is = is
 serial-in-hand made (Err e) is = tt
 
--- where nothing was granted the hands are as they were
+-- if nothing was granted, the hands are unchanged
 pub hands-kept : (hands : Hands) (hand n : ℕ) (a : Result HandGranted (ReserveFault × List ℕ)) → ((r : HandGranted) → a ≡ Ok r → ⊥) → hands_reserved hands hand n a ≡ hands
 hands-kept hands hand n (Ok r) none = absurd (none r refl)
 hands-kept hands hand n (Err e) none = refl
 
--- a reservation into a hand is one of the ring over chapters
+-- a reservation into a hand is a reservation of the ring
 pub reserves-in : (w hand n : ℕ) (a : Result HandGranted (ReserveFault × List ℕ)) (old new : HandRing) → ReservesToHand w hand n a old new → ReservesInChapter w n (granted_in a) old.ring new.ring
 reserves-in w hand n (Ok r) old new c = (c.0.grants, c.1, c.2)
 reserves-in w hand n (Err e) old new c = (c.0, c.1)
 
--- what comes to its end out of a hand comes to it in the ring's chapter, and leaves the hand free
+-- a commit from a hand is a commit in the ring's chapter, and frees the hand
 ends-in : (end : RecordEnd) (g : HandGranted) (old new : HandRing) → EndsFromHand end g.hand g.granted old new → Ends end g.granted old.ring new.ring
 ends-in Submit g old new e = e.submits
 ends-in Discard g old new e = e.discards
@@ -53,7 +54,7 @@ frees-hand Submit g old new e = e.freed
 frees-hand Discard g old new e = e.freed
 
 module _ (w : ℕ) (v : HandPassView) (r new : HandRing) (out : HandPassView) (idle : IsIdleWith (Worker w) v) (took : TakesHandState v r out) (kept : IsKeptHandRing new) where
-  -- ---- that the state may be put back
+  -- ---- the state may be put back
 
   pub put-query : (what answer : ℕ) → LeavesHands (QueriesInChapter what answer) r new → MayPutHands out new
   put-query what answer c =
@@ -81,7 +82,7 @@ module _ (w : ℕ) (v : HandPassView) (r new : HandRing) (out : HandPassView) (i
       (chapter.put-end w (without_hands v) r.ring new.ring (without_hands out) (chapter-idle (Worker w) v r out idle took) took.chapters kept.kept end g.granted flags notice mine (ends-in end g r new c.0, c.1))
       (frees-hand end g r new c.0 ∙ ap (λ u. with_hand r.hands u g.hand None) mine)
 
-  -- ---- what the pass knows then
+  -- ---- what the pass knows afterwards
 
   module _ (after : HandPassView) (put : PutsHandState out new after) where
     pub queried : (what answer : ℕ) → LeavesHands (QueriesInChapter what answer) r new → LeavesSeat w v after (bytes_with v) (hands_by v) (QueriesInChapter what answer)

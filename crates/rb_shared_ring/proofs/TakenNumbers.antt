@@ -1,4 +1,4 @@
--- The consumer's numbers after each call on a shared ring over chapters.
+-- The consumer's counts after each call on a shared ring.
 use Rattle.std.proofs.Common.{◌≡◌, ℕ, ◌+◌, ◌*◌, ◌≤◌, ◌^◌, List, [], ◌∷◌, length, sym, ap, ◌∙◌, subst, arith}
 use Rattle.rb_history.specs.Span.{span}
 use Rattle.rb_history.specs.declared.answers.Taken.{Taken}
@@ -29,7 +29,7 @@ use Rattle.rb_shared_ring.specs.inner.SeatsKeep.{KeepsConsumer, CountsTakes}
 use Rattle.rb_shared_ring.proofs.WholeAnswers.{same-taken}
 use Rattle.rb_shared_ring.proofs.ConsumerPassing.{many-whole, same-each}
 
--- what was taken moved the position by a header at least
+-- a record that was taken advanced the position by at least a header
 span-least : (n : ℕ) → 8 ≤ span n
 span-least n = omega arith
 
@@ -43,7 +43,7 @@ spaced-all : (ts : List Taken) → 8 * (events_among ts + skips_among ts) ≤ sp
 spaced-all [] = omega arith
 spaced-all (t ∷ ts) = omega (arith, spaced-one t, spaced-all ts, sum_by-cons events_in t ts, sum_by-cons skips_in t ts, sum_by-cons span_in t ts)
 
--- the consumer's numbers by what was added, all within 2^62
+-- the consumer's counts after these were added, all within 2^62
 pub record AreTakerNumbers (c s p e k m : ℕ) (a b : Book) : Type 0 where
   pub ties : ConsumerTies (c + e) (s + k) (p + m) a
   pub spaced : 8 * ((c + e) + (s + k)) ≤ p + m
@@ -53,7 +53,7 @@ pub record AreTakerNumbers (c s p e k m : ℕ) (a b : Book) : Type 0 where
 consumer-low : (r : Ring) (a : Book) → a ≡ book_of r → r.consumer ≡ consumer_of r.setup.start r.history → r.consumer ≤ r.producer → r.producer ≤ 2 ^ 62 → consumer_of a.setup.start a.history ≤ 2 ^ 62
 consumer-low r a seen is low high = subst (λ (x : Book). consumer_of x.setup.start x.history ≤ 2 ^ 62) (sym seen) (omega (arith, is, low, high))
 
--- a take, and many, over the whole history
+-- one take, and many, over the whole history
 module _ (b a : Book) (room : ℕ) (handed_out : List Chapter) where
   pub take-called : (t : Taken) → LockedChapterCall Consumer b a (InKnownRoom room handed_out (TakesInChapter t)) → LockedCall Consumer b a (InRoomBehind room (joined handed_out) (TakesAt t))
   take-called t = call-behind b a room handed_out (TakesInChapter t) (TakesAt t) (λ earlier old new is kept x. (same-taken old new t x.0, takes-whole earlier old new is t x))
@@ -92,7 +92,7 @@ module _ (c s p : ℕ) (b a : Book) (ties : ConsumerTies c s p b) (spaced : 8 * 
   pub many-stood : (room : ℕ) (handed_out : List Chapter) (n : ℕ) (ts : List Taken) → LockedChapterCall Consumer b a (InKnownRoom room handed_out (TakesManyInChapter n ts)) → AreTakenFrom p ts
   many-stood room handed_out n ts call = many-places c s p b a n ts (behind-over-all b a room (joined handed_out) (TakesMany n ts) (many-called b a room handed_out n ts call)) ties
 
-  -- the ring is as it was
+  -- the ring is unchanged
   same-counts : LockedCall Consumer b a (λ old new. new ≡ old) → ConsumerTies c s p a × (a.setup ≡ b.setup)
   same-counts turn =
       let there = taker-goes-on c s p b (book_of turn.point) turn.goes_on turn.was_ring.legal ties in

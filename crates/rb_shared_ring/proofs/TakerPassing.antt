@@ -1,4 +1,5 @@
--- Each call of the consumer's seat under the lock: that the state may be put back with its hands, which it leaves, and what the seat's pass knows then.
+-- Each call with the consumer's seat under the lock: the state may be put back with its hands, which do not change, and
+-- what the seat's pass knows afterwards.
 use Rattle.std.proofs.Common.{◌≡◌, List}
 use Rattle.rb_history.specs.RingModel.{Contents}
 use Rattle.rb_chapter_ring.specs.Chapters.{Chapter}

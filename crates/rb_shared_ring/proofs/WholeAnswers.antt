@@ -1,4 +1,4 @@
--- The calls by a ring's chapter, with their answers, are those of the ring with its whole history.
+-- The calls by a ring's chapter, with their results, are those of the ring with its whole history.
 use Rattle.std.proofs.Common.{◌≡◌, ◌≢◌, ◌↔◌, ℕ, ◌<◌, List, length, refl, sym, ap, ◌∙◌, subst, Result, Ok, Err}
 use Rattle.rb_history.specs.declared.entries.Entry.{Entry}
 use Rattle.rb_history.specs.declared.answers.Notice.{Notice}
@@ -29,7 +29,7 @@ use Rattle.rb_shared_ring.specs.AnswersOverAll.{whole_fault, whole_answer}
 use Rattle.rb_shared_ring.specs.SharedCalls.{reserved_in_room_by, output_in_room_by, sent_by_output_in_room}
 use Rattle.rb_shared_ring.specs.inner.ChapterAnswers.{ReservesInChapter, OutputsInChapter}
 
--- ---- answers
+-- ---- results
 
 tally-refused : (t : Tally) (f : ReserveFault) (b : List ℕ) → reserved_by t (Err (whole_fault f, b)) ≡ reserved_in_room_by t (Err (f, b))
 tally-refused t Full b = refl

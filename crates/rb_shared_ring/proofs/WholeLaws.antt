@@ -1,4 +1,4 @@
--- Each call with room for entries, by its answer, is a call over the whole history.
+-- Each call with room for entries, by its result, is a call over the whole history.
 use Rattle.std.proofs.Common.{ℕ, List, length, Result, Ok, Err}
 use Rattle.rb_history.specs.declared.answers.Notice.{Notice}
 use Rattle.rb_history.specs.ReservationModel.{Granted}

@@ -1,4 +1,4 @@
--- A worker's call under the lock: that the state may be put back, and what the worker's pass knows then.
+-- A worker's call under the lock: the state may be put back, and what the worker's pass knows afterwards.
 use Rattle.std.proofs.Common.{◌≡◌, ℕ, ◌<◌, List, Some, length, drop, refl, sym, ap, ◌∙◌, subst, Result}
 use Rattle.rb_history.specs.declared.answers.Notice.{Notice}
 use Rattle.rb_history.specs.ReservationModel.{Granted}
@@ -34,7 +34,7 @@ use Rattle.rb_shared_ring.proofs.ChapterPassing.{HeldChapter, held-in, held-is-o
 use Rattle.rb_shared_ring.specs.AnswersOverAll.{whole_answer}
 use Rattle.rb_shared_ring.proofs.WholeAnswers.{stays, same-reserved, same-output, same-ended, reserves-whole, outputs-whole, producer-same, sent-output}
 
--- what a worker's call leaves, which was made on this ring
+-- what a worker's call leaves that was made on this ring
 pub record LeavesWorker (w : ℕ) (v after : ChapterPassView) (c : ChapteredRing) (sent : Contents) (Call : ChapterRing → ChapterRing → Type 0) : Type 0 where
   pub idle : IsIdleIn (Worker w) after
   pub call : LockedChapterCall (Worker w) (seen_by v) (seen_by after) (InRoomAt c.ring.chapter.room (length (joined c.handed_out)) Call)

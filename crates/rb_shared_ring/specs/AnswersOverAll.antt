@@ -1,4 +1,4 @@
--- The calls on a shared ring, by their answers, are those of a ring that keeps its whole history (own).
+-- The calls on a shared ring, by their results, are those of a ring that keeps its whole history (own).
 use Rattle.std.specs.Prelude.{ℕ, List, Result, Ok, Err}
 use Rattle.rb_history.specs.declared.answers.Notice.{Notice}
 use Rattle.rb_history.specs.declared.answers.NoGrant.{NoGrant}
@@ -12,8 +12,9 @@ use Rattle.rb_ledger.specs.LockedCalls.{LockedCall, Reserves, OutputsAt}
 use Rattle.rb_ledger.specs.EntryRoom.{InRoom}
 use Rattle.rb_shared_ring.specs.SharedCalls.{ReservesInRoom, OutputsInRoom}
 
--- to a ring that keeps its whole history a refusal that is not logged and changes nothing is as want of memory is: want of room for entries, a foreign seat
--- (its call is none of the ring) and want of a free hand
+-- For a ring that keeps its whole history, a refusal that is not logged and changes nothing is the same as a lack of
+-- memory: a lack of room for entries, a foreign seat (whose call is not a call of the ring), and the lack of a free
+-- hand.
 abbrev pub whole_fault : ReserveFault → NoGrant
 whole_fault Full = WholeFull
 whole_fault Flags = WholeFlags

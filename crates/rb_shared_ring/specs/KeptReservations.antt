@@ -1,4 +1,5 @@
--- A reservation that is out in a hand of its seat is out there until the seat gives it back, by what `SharedRing`'s calls say (own).
+-- The record of a reservation that is in a hand of its seat stays there until the seat commits it, by the contracts of
+-- `SharedRing`'s calls (own).
 use Rattle.std.specs.Prelude.{◌≡◌, ◌≢◌, ◌↔◌, ℕ, List, None, length, replicate, slice_set, Result, Ok, IfOk, IfErr, IsOk, OnOk}
 use Rattle.rb_history.specs.declared.answers.Notice.{Notice}
 use Rattle.rb_chapter_ring.specs.declared.faults.ReserveFault.{ReserveFault}
@@ -38,16 +39,17 @@ pub record LeavesHands (old new : WorkerSeat) : Type 0 where
 
 -- ---- the law
 
--- what was out in a hand of the seat is out in it
+-- what was out in a hand of the seat is still out in it
 abbrev pub KeepsOut : Shared → WorkerSeat → WorkerSeat → Type 0
 KeepsOut ring old new = (r : HandGranted) → IsInSeatsHand ring old r → IsInSeatsHand ring new r
 
--- the same, but for this hand
+-- the same, except for this hand
 abbrev pub KeepsOutElsewhere : Shared → WorkerSeat → WorkerSeat → ℕ → Type 0
 KeepsOutElsewhere ring old new hand = (r : HandGranted) → r.hand ≢ hand → IsInSeatsHand ring old r → IsInSeatsHand ring new r
 
--- A record that is granted is out in the seat's hand. One that is out is taken at its submit and its discard; a refusal of these leaves all that is out,
--- and each call leaves what is out in other hands. What is out is busy by what the seat has seen, where its hands are as `Seat::facts` says.
+-- A record that is granted is out in a hand of the seat. If it is out, its submit and its discard are accepted. A
+-- refusal of these keeps everything that is out, and each call keeps what is out in other hands. What is out is busy in
+-- the history that the seat has seen, if its hands are as `Seat::facts` states.
 pub record KeepsReservations (ring : Shared) (old new : WorkerSeat) : Type 0 where
   pub granted : (n : ℕ) (r : HandGranted) → length old.hands ≡ 4 → IsReserve ring old new n (Ok r) → IsInSeatsHand ring new r
   pub reserves : (n : ℕ) (answer : Result HandGranted (ReserveFault × List ℕ)) → IsReserve ring old new n answer → KeepsOut ring old new

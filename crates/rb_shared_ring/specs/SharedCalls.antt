@@ -1,5 +1,5 @@
--- What the calls on a shared ring do and answer at one point of its whole history, beside those that rb_ledger defines; and what an answer adds to a
--- seat's numbers and bytes (own).
+-- What the calls on a shared ring do and return at one point of its whole history, besides those that rb_ledger
+-- defines; and what a result adds to a seat's counts and bytes (own).
 use Rattle.std.specs.Prelude.{◌≡◌, ◌≢◌, ℕ, ◌+◌, ◌≤◌, ◌<◌, ◌↔◌, List, Option, Some, None, length, replicate, slice_set as set, Result, Ok, Err}
 use Rattle.std.specs.FinMap.{insert}
 use Rattle.rb_history.specs.declared.answers.Notice.{Notice}
@@ -21,10 +21,12 @@ use Rattle.rb_ledger.specs.Seats.{Shared, WorkerSeat}
 use Rattle.rb_ledger.specs.EntryRoom.{MayLogGrant, MayLogRefusal, FindsNoEntryRoom}
 use Rattle.rb_shared_ring.specs.declared.audit.Audit.{Audit}
 
--- ---- the calls, as their arguments and answers say, of a ring with this room for entries, of whose history the first `cut` were handed out
+-- ---- the calls, by their arguments and results, on a ring whose chapters have this room for entries and whose first
+-- `cut` entries were handed out
 
--- why no record of n bytes was granted to the worker. It is Full, and logged, where the ring has no room for the record and the refusal may be logged;
--- ChapterFull, and nothing changes, where there is no room for the entry that would be logged. What a seat is refused before makes no call
+-- The reason why no record of n bytes was granted to the worker. Full, which is logged: the ring has no room for the
+-- record, and the chapter has room for the entry of a refusal. ChapterFull, which changes nothing: there is no room for
+-- the entries that would be logged. Foreign and HandsFull are returned before the call reaches the ring.
 abbrev pub RefusesInRoom : (room cut : ℕ) → Ring → Ring → ℕ → ℕ → ReserveFault → Type 0
 RefusesInRoom room cut old new w n Full = FindsFull old new w n × MayLogRefusal room cut w old
 RefusesInRoom room cut old new w n ChapterFull = FindsNoEntryRoom room cut old new w n
@@ -32,7 +34,7 @@ RefusesInRoom room cut old new w n Flags = new ≡ old
 RefusesInRoom room cut old new w n Foreign = ⊥
 RefusesInRoom room cut old new w n HandsFull = ⊥
 
--- a record is granted where the ring has room for it, and for all that it will log
+-- a record is granted if the ring has room for it, and the chapter for all entries that it will log
 abbrev pub ReservesInRoom : (room cut : ℕ) → ℕ → ℕ → Result Granted (ReserveFault × List ℕ) → Ring → Ring → Type 0
 ReservesInRoom room cut w n (Ok r) old new = Grants old new w n r.pos r.serial × MayLogGrant room cut old × (r.worker ≡ w) × (r.bytes ≡ replicate n 0)
 ReservesInRoom room cut w n (Err e) old new = RefusesInRoom room cut old new w n e.0 × (e.0 ≢ Flags)
@@ -42,7 +44,8 @@ OutputsInRoom room cut w bytes flags (Ok notice) old new =
     Outputs old new w bytes × MayLogGrant room cut old × ((notice ≡ Due) ↔ IsDue (consumer_now old) (producer_now old) flags) × (flags ≤ 3)
 OutputsInRoom room cut w bytes flags (Err e) old new = RefusesInRoom room cut old new w (length bytes) e.0 × ((e.0 ≡ Flags) ↔ (3 < flags))
 
--- the positions, the counts and the numbers of the worker's entries are those of the whole history. Of the refusals of all workers it tells 2^64 - 1 at most
+-- The positions, the counts, and the counts of the worker's entries are those of the whole history. The refusal count
+-- of all workers saturates at 2^64 - 1.
 pub record Audits (w : ℕ) (a : Audit) (old new : Ring) : Type 0 where
   pub producer_is : a.producer ≡ producer_now old
   pub consumer_is : a.consumer ≡ consumer_now old
@@ -50,12 +53,12 @@ pub record Audits (w : ℕ) (a : Audit) (old new : Ring) : Type 0 where
   pub own_is : a.own ≡ tally_of w old.history
   pub same : new ≡ old
 
--- the answer is this refusal
+-- the result is this refusal
 abbrev pub IsRefusedInRoomAs : {T : Type 0} → ReserveFault → Result T (ReserveFault × List ℕ) → Type 0
 IsRefusedInRoomAs fault (Ok _) = ⊥
 IsRefusedInRoomAs fault (Err e) = e.0 ≡ fault
 
--- ---- what an answer adds to a seat's numbers and bytes
+-- ---- what a result adds to a seat's counts and bytes
 
 -- a refusal that is logged is counted
 abbrev pub refused_in_room_by : Tally → ReserveFault → Tally
@@ -73,35 +76,35 @@ abbrev pub output_in_room_by : Tally → Result Notice (ReserveFault × List ℕ
 output_in_room_by t (Ok _) = record t { made = t.made + 1; submitted = t.submitted + 1 }
 output_in_room_by t (Err e) = refused_in_room_by t e.0
 
--- an output adds its bytes, at the position where its record stands
+-- an output adds its bytes, at the position of its record
 abbrev pub sent_by_output_in_room : Contents → ℕ → List ℕ → Result Notice (ReserveFault × List ℕ) → Contents
 sent_by_output_in_room sent p bytes (Ok _) = insert sent p bytes
 sent_by_output_in_room sent p bytes (Err e) = sent
 
 -- ---- a seat's hands
 
--- what was granted, without the ring's tag and the hand
+-- the granted record, without the ring's tag and the hand
 abbrev pub granted_in : {E : Type 0} → Result HandGranted E → Result Granted E
 granted_in (Ok r) = Ok r.granted
 granted_in (Err e) = Err e
 
--- a granted record is in the hand
+-- a granted record is in this hand
 abbrev pub hands_reserved : {E : Type 0} → Hands → ℕ → ℕ → Result HandGranted E → Hands
 hands_reserved hands hand n (Ok r) = set hands hand (Some (out_record r.granted.pos r.granted.serial n))
 hands_reserved hands hand n (Err e) = hands
 
--- and so it is for the hand that the reservation names
+-- a granted record is in the hand that the reservation names
 abbrev pub hands_after_reserve : {E : Type 0} → Hands → ℕ → Result HandGranted E → Hands
 hands_after_reserve hands n (Ok r) = set hands r.hand (Some (out_record r.granted.pos r.granted.serial n))
 hands_after_reserve hands n (Err e) = hands
 
--- the position of what is in a hand
+-- the position of the record in a hand
 abbrev pub position_of : Option OutRecord → Option ℕ
 position_of None = None
 position_of (Some o) = Some o.pos
 
--- the reservation is one that the seat may give back to the ring: all three have one tag, the worker is the seat's, and the seat's hand of its number
--- is out with its position, serial and length
+-- The seat may commit the reservation at the ring: all three have the same tag, the worker is the seat's, and the
+-- seat's hand with the reservation's number holds its position, serial and length.
 pub record IsInSeatsHand (ring : Shared) (seat : WorkerSeat) (r : HandGranted) : Type 0 where
   pub seat_is : seat.tag ≡ ring.tag
   pub tag_is : r.tag ≡ seat.tag

@@ -1,4 +1,4 @@
--- How the consumer's seat at a shared ring over chapters changes in a call.
+-- How a call changes the consumer's seat at a shared ring.
 use Rattle.std.specs.Prelude.{◌≡◌, Result, Ok, Err}
 use Rattle.rb_chapter_ring.specs.Chapters.{Chapter}
 use Rattle.rb_ledger.specs.ChapterSeats.{ChapterConsumerSeat}
@@ -10,14 +10,14 @@ pub record IsSameChapterConsumer (old new : ChapterConsumerSeat) : Type 0 where
   pub ring_same : new.ring ≡ old.ring
   pub room_same : new.room ≡ old.room
 
--- and its numbers and bytes are the same
+-- its counts and bytes did not change
 pub record TakesNothing (old new : ChapterConsumerSeat) : Type 0 where
   pub consumed_same : new.consumed ≡ old.consumed
   pub skipped_same : new.skipped ≡ old.skipped
   pub position_same : new.position ≡ old.position
   pub got_same : new.got ≡ old.got
 
--- the answer is this refusal to hand a chapter out
+-- the result is this refusal to hand out a chapter
 abbrev pub IsHandFault : HandFault → Result Chapter (HandFault × Chapter) → Type 0
 IsHandFault fault (Ok _) = ⊥
 IsHandFault fault (Err e) = e.0 ≡ fault

@@ -2,9 +2,11 @@
 
 ghost use Rattle.rb_shared_ring.specs.AnswersOverAll.{EachAnswerIsWhole};
 
-/// A reservation and an output, each with its answer, are what they are on a ring that keeps its whole history: so what is said of `rb_ledger`'s
-/// ring holds of them. Want of room for entries is there a refusal that changes nothing. The other calls say it themselves. The function does
-/// nothing; its contract is the law.
+/// States that a reservation and an output, each with its result, are the same calls on a ring that keeps its whole
+/// history, so what is proved of `rb_ledger`'s ring holds of them. There, a lack of room for entries is a refusal that
+/// changes nothing. The contracts of the other calls state this themselves.
+///
+/// The function does nothing; its contract is the law.
 pub fn each_answer_is_whole()
     ensures law { EachAnswerIsWhole }
 {}

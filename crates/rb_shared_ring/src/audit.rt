@@ -24,7 +24,7 @@ use rb_chapter_ring::HandState;
 use rb_history::{Counts, Tally};
 use std::sync::Wait;
 
-/// A ring at one point of its history.
+/// A ring's positions and counts at one point of its history.
 #[derive(Clone, Copy, Debug, PartialEq, Eq)]
 pub struct Audit {
     /// The producer position.
@@ -33,11 +33,11 @@ pub struct Audit {
     pub consumer: u64,
     /// The counts of the whole history.
     pub counts: Counts,
-    /// How many entries are those of the worker that asked. They equal its seat's own numbers.
+    /// The counts of the entries of the worker that asked. They equal its seat's own counts.
     pub own: Tally,
 }
 
-// The ring's positions and counts, and the numbers of a worker's entries. In constant time.
+// Returns the ring's positions and counts, and the counts of a worker's entries. Takes constant time.
 fn audit_of(state: &HandState, worker: u32) -> Audit
     requires worker { worker < state.now.ring.chapter.opening.setup.workers }
     ensures audit { AuditsInChapter worker result state.now.ring state.now.ring }
@@ -52,7 +52,7 @@ fn audit_of(state: &HandState, worker: u32) -> Audit
     }
 }
 
-// The totals of the worker.
+// Returns the totals of the worker.
 fn tally_in(tallies: &[Tally], worker: u32) -> Tally
     requires worker { worker < length tallies.now }
     ensures tally { result ≡ slice_index_or tallies.now worker no_tally }
@@ -60,7 +60,7 @@ fn tally_in(tallies: &[Tally], worker: u32) -> Tally
     tallies[worker as usize]
 }
 
-// An audit for the worker whose pass it is.
+// Returns an audit for the worker of this pass.
 fn audit_with<R: Wait>(
     rt: &R,
     lock: &Lock,
@@ -92,8 +92,10 @@ fn audit_with<R: Wait>(
 }
 
 impl SharedRing {
-    /// The ring's positions and counts at one moment, and the numbers of the entries of the seat's worker, all of the whole history. Of the
-    /// refusals of all workers it tells 2^64 - 1 at most. In constant time: the ring keeps all of them.
+    /// Returns the ring's positions and counts at one moment, and the counts of the entries of the seat's worker, all
+    /// over the whole history. The refusal count of all workers saturates at `u64::MAX`.
+    ///
+    /// Takes constant time, since the ring maintains all of them.
     pub fn audit<R: Wait>(&self, rt: &R, seat: &mut Seat) -> Result<Audit, Foreign>
         requires ring { seat.old.tag ≡ self.now.tag → seat.old.ring ≡ self.now.ring }
         ensures foreign { IsErr result ↔ (seat.old.tag ≢ self.now.tag) }

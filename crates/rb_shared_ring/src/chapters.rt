@@ -1,4 +1,4 @@
-//! The consumer hands chapters out.
+//! The consumer's calls that hand out chapters.
 
 ghost use Rattle.std.specs.Prelude.{◌≡◌, ◌≢◌, ◌<◌, ◌^◌, ◌↔◌, ◌++◌, ◌∷◌, [], IfOk, IfErr, IsErr, OnErr, IsTrue, None, length};
 ghost use Rattle.crossbeam_queue.specs.Passes.{view, IsPassOf, IsSamePass, ruled_capacity};
@@ -23,16 +23,16 @@ use thiserror::Error;
 /// Why no chapter was handed out: the first of these that applies, in this order.
 #[derive(Clone, Copy, Debug, Error, PartialEq, Eq)]
 pub enum HandFault {
-    /// The seat is another ring's. Nothing changed.
+    /// The seat belongs to another ring. Nothing changed.
     #[error("the seat is another ring's")]
     Foreign,
-    /// The chapter that was handed in has entries, another room or other workers than the ring's, or the last number was reached. Nothing
-    /// changed.
+    /// The passed chapter has entries, or another room or number of workers than the ring, or the last chapter number
+    /// was reached. Nothing changed.
     #[error("the chapter does not fit the ring")]
     Unfit,
 }
 
-// `RingState::hand_out`, for the consumer, of a chapter in which the ring may go on.
+// Calls `RingState::hand_out` for the consumer, with a chapter in which the ring may continue.
 fn hand_out_with<R: Wait>(
     rt: &R,
     lock: &Lock,
@@ -68,7 +68,7 @@ fn hand_out_with<R: Wait>(
     )
 }
 
-// Hands the ring's chapter out, which goes on in a chapter that fits.
+// Hands out the ring's chapter; the ring continues in the passed one, which must fit.
 fn next_chapter(state: &mut HandState, empty: Chapter) -> Chapter
     requires fits { MayGoOnIn state.old.ring empty }
     ensures hands_out { HandsOut state.old.ring state.new.ring result }
@@ -80,7 +80,7 @@ fn next_chapter(state: &mut HandState, empty: Chapter) -> Chapter
     }
 }
 
-// How many entries the ring's chapter has, and how many it owes.
+// Returns how many entries the ring's chapter has, and how many it owes.
 fn used_with<R: Wait>(rt: &R, lock: &Lock, batch: &BatchFlag, pass: &mut RingPass) -> (u32, u32)
     requires pass { IsPassOf lock.now pass.old × (ruled_capacity lock.now ≡ 1) }
     requires idle { IsIdleWith Consumer (view pass.old) }
@@ -103,7 +103,7 @@ fn used_with<R: Wait>(rt: &R, lock: &Lock, batch: &BatchFlag, pass: &mut RingPas
 }
 
 impl ConsumerSeat {
-    // Whether the ring may go on in the chapter.
+    // Returns whether the ring may continue in the chapter.
     fn is_fit(&self, empty: &Chapter) -> bool
         ensures exact { IsTrue result ↔ IsFitChapter self.now empty.now }
     {
@@ -115,9 +115,12 @@ impl ConsumerSeat {
 }
 
 impl SharedRing {
-    /// Hands the ring's chapter out as it is, and goes on in `empty`, which becomes the next one: it begins with what the old one stands for.
-    /// The chapter's number is how many were handed out before. `Foreign` comes first, then `Unfit`; both hand `empty` back. In
-    /// time linear in the records that were not taken and the workers, and without memory. The lock is held meanwhile.
+    /// Hands out the ring's chapter as it is. The ring continues in `empty`, which becomes the next chapter; its
+    /// opening is a summary of everything before it.
+    ///
+    /// The chapter's number is the number of chapters that were handed out before. Returns `Foreign` or else `Unfit` if
+    /// one of them applies, with `empty`. Takes time linear in the numbers of untaken records and of workers, during
+    /// which the lock is held, and does not allocate.
     pub fn hand_out<R: Wait>(
         &self,
         rt: &R,
@@ -149,8 +152,10 @@ impl SharedRing {
         Ok(chapter)
     }
 
-    /// How many entries the ring's chapter has, and how many more its records ask for: two for each busy one, its end and its take, and one for
-    /// each other. A record is granted where both and 3 are at most the chapter's room.
+    /// Returns how many entries the ring's chapter has, and how many its records will still log: two for each busy
+    /// record, its commit and its take, and one for any other.
+    ///
+    /// A record is granted only if the sum of both plus three is at most the chapter's room.
     pub fn used<R: Wait>(&self, rt: &R, seat: &mut ConsumerSeat) -> Result<(u32, u32), Foreign>
         requires ring { seat.old.tag ≡ self.now.tag → seat.old.ring ≡ self.now.ring }
         ensures foreign { IsErr result ↔ (seat.old.tag ≢ self.now.tag) }

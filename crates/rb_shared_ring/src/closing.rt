@@ -1,4 +1,4 @@
-//! A shared ring over chapters is closed once all its seats are handed in.
+//! Closing a shared ring, with all its seats.
 
 ghost use Rattle.std.specs.Prelude.{ℕ, ◌≡◌, ◌↔◌, ◌++◌, ◌∷◌, [], List, IfOk, IfErr, IsOk, IsTrue, All, true};
 ghost use Rattle.crossbeam_queue.specs.Passes.{view, IsPassOf, IsSamePass};
@@ -23,8 +23,8 @@ use rb_history::Counts;
 use std::marker::Model;
 use std::sync::Wait;
 
-/// A closed ring, from which its tag, its last chapter, the counts and both positions are read. Contracts see which shared ring it was,
-/// and the ring of one thread that it was at the end.
+/// A closed ring, with its tag, its last chapter, its counts and both positions. Contracts see which shared ring it
+/// was, and the ring of one thread that it was at the end.
 #[derive(Drop)]
 pub struct Closing {
     ring: SharedRing,
@@ -48,35 +48,36 @@ impl Model for Closing {
 }
 
 impl Closing {
-    /// The number of the ring that was closed, as the caller of `open` gave it.
+    /// Returns the ring's tag, as the caller of `open` chose it.
     pub fn tag(&self) -> u64
         ensures tag { result ≡ self.now.shared.tag }
     {
         self.ring.tag()
     }
 
-    /// The ring's last chapter. Its own `closing` has the totals: each worker's four, and how many records were consumed and skipped.
+    /// Returns the ring's last chapter. That chapter's `closing` has the totals: four for each worker, and how many
+    /// records were consumed and skipped.
     pub fn chapter(&self) -> &Chapter
         ensures chapter { result.now ≡ self.now.at_end.chapter }
     {
         self.state.as_ref().chapter()
     }
 
-    /// The counts of the whole history. Of the refusals it tells 2^64 - 1 at most. In constant time.
+    /// Returns the counts of the whole history. The refusal count saturates at `u64::MAX`. Takes constant time.
     pub fn counts(&self) -> Counts
         ensures counts { result ≡ told_counts self.now.at_end }
     {
         self.state.as_ref().counts()
     }
 
-    /// The producer position.
+    /// Returns the producer position.
     pub fn producer(&self) -> u64
         ensures position { result ≡ producer_by_chapter self.now.at_end }
     {
         self.chapter().closing().numbers().producer
     }
 
-    /// The consumer position.
+    /// Returns the consumer position.
     pub fn consumer(&self) -> u64
         ensures position { result ≡ consumer_by_chapter self.now.at_end }
     {
@@ -84,18 +85,19 @@ impl Closing {
     }
 }
 
-/// The ring was not closed, since a seat is missing or is another ring's. All that was handed in is handed back unchanged.
+/// The failure of `close`: a seat is missing, or belongs to another ring. It returns everything that was passed in,
+/// unchanged.
 #[derive(Drop)]
 pub struct NotAll {
-    /// The ring, which goes on.
+    /// The ring, which remains open.
     pub ring: SharedRing,
-    /// The seats that were handed in.
+    /// The seats that were passed in.
     pub seats: Vec<Seat>,
     /// The consumer's seat.
     pub consumer: ConsumerSeat,
 }
 
-// Whether all seats have this tag.
+// Returns whether all seats have this tag.
 fn are_all_tagged(seats: &[Seat], tag: u64) -> bool
     ensures { result ≡ are_tagged tag seats.now }
 {
@@ -107,7 +109,7 @@ fn are_all_tagged(seats: &[Seat], tag: u64) -> bool
     true
 }
 
-// Whether the worker has a seat among these.
+// Returns whether one of these seats is the worker's.
 fn has_seat_of(seats: &[Seat], worker: u32) -> bool
     ensures { result ≡ has_seat worker seats.now }
 {
@@ -119,7 +121,7 @@ fn has_seat_of(seats: &[Seat], worker: u32) -> bool
     false
 }
 
-// Whether each worker has a seat among these.
+// Returns whether each worker has a seat among these.
 fn has_all(seats: &[Seat], workers: u32) -> bool
     ensures { IsTrue result ↔ HasAll workers seats.now }
 {
@@ -131,7 +133,7 @@ fn has_all(seats: &[Seat], workers: u32) -> bool
     true
 }
 
-// Takes the seats' roles into the pass.
+// Moves the seats' roles into the pass.
 fn gather(lock: &Lock, pass: &mut RingPass, mut seats: Vec<Seat>)
     requires pass { IsPassOf lock.now pass.old }
     requires seats { All (λ s. s.ring ≡ pass.old.table_id) seats.items }
@@ -147,7 +149,7 @@ fn gather(lock: &Lock, pass: &mut RingPass, mut seats: Vec<Seat>)
     }
 }
 
-// Takes the state out by a pass that has taken in all roles.
+// Takes the state out of the lock, with a pass that has all roles.
 fn collect<R: Wait>(
     rt: &R,
     lock: &Lock,
@@ -167,9 +169,11 @@ fn collect<R: Wait>(
 }
 
 impl SharedRing {
-    /// Closes this ring, given all its seats and its consumer, and returns it with its last chapter. If a seat is missing, or a seat or
-    /// the consumer is foreign, all of them are handed back. Where it is Ok, what each seat knew to be handed out at its last call had been, of the chapters
-    /// that the consumer was handed.
+    /// Closes this ring, given all its seats and its consumer, and returns it with its last chapter. If a seat is
+    /// missing, or a seat or the consumer is foreign, returns all of them unchanged.
+    ///
+    /// If it returns Ok, the entries that each seat knew at its last call to be handed out are in the chapters that the
+    /// consumer was handed.
     pub fn close<R: Wait>(
         self,
         rt: &R,

@@ -1,4 +1,4 @@
-//! The consumer's seat at a shared ring over chapters.
+//! The consumer's seat at a shared ring.
 
 ghost use Rattle.std.specs.Prelude.{◌≡◌, [], ◌∷◌, None, length};
 ghost use Rattle.crossbeam_queue.specs.Passes.{view, IsPassOf, IsSamePass};
@@ -16,9 +16,11 @@ use crate::lock::{Lock, RingPass, SplitFirstRole};
 use crate::ring_numbers::RingNumbers;
 use std::marker::Model;
 
-/// The consumer's seat at a shared ring: the right to take records and to hand chapters out, and the consumer's numbers. It can't be cloned, so
-/// a ring has one; it may be sent to another thread. Contracts also see the whole history up to the seat's last call, the bytes that it
-/// took, by position, and the chapters that were handed out, oldest first.
+/// The consumer's seat at a shared ring (its handle to the ring): the right to take records and to hand out chapters,
+/// and the consumer's counts. It can't be cloned, so a ring has one; it may be sent to another thread.
+///
+/// Contracts also see the whole history up to the seat's last call, the bytes that it took, by position, and the
+/// chapters that were handed out, the oldest first.
 #[derive(Drop)]
 pub struct ConsumerSeat {
     pub(crate) tag: u64,
@@ -67,8 +69,8 @@ impl Model for ConsumerSeat {
 }
 
 impl ConsumerSeat {
-    /// What holds of each consumer's seat: what it has seen is legal, its numbers are those of the takes there, its position is the
-    /// consumer position, and it does not have the ring's state out of the lock.
+    /// States the invariant of a consumer's seat: the history that it has seen is legal, its counts are those of the
+    /// takes in it, its position is the consumer position, and it does not hold the ring's state.
     pub fn facts(&self)
         ensures book { IsBook self.now.seen }
         ensures ties { ConsumerTies self.now.consumed self.now.skipped self.now.position self.now.seen }
@@ -77,7 +79,7 @@ impl ConsumerSeat {
         let _ = &self.tag;
     }
 
-    /// The number of the ring that the seat was opened with, as its caller gave it.
+    /// Returns the tag of the ring with which the seat was opened.
     pub fn tag(&self) -> u64
         ensures tag { result ≡ self.now.tag }
     {
@@ -85,7 +87,7 @@ impl ConsumerSeat {
     }
 
     #[inline(always)]
-    /// What its ring was opened with.
+    /// Returns the parameters with which its ring was opened.
     pub fn numbers(&self) -> RingNumbers
         ensures size { result.size ≡ self.now.seen.setup.size }
         ensures workers { result.workers ≡ self.now.seen.setup.workers }
@@ -98,35 +100,36 @@ impl ConsumerSeat {
         }
     }
 
-    /// How many chapters were handed out, which is the number of the ring's own.
+    /// Returns the number of chapters that were handed out, which is the number of the ring's current chapter.
     pub fn chapters(&self) -> u64
         ensures chapters { result ≡ length self.now.handed_out }
     {
         self.chapters
     }
 
-    /// How many events were taken.
+    /// Returns the number of events that were taken.
     pub fn consumed(&self) -> u64
         ensures consumed { result ≡ self.now.consumed }
     {
         self.consumed
     }
 
-    /// How many discarded records were skipped.
+    /// Returns the number of discarded records that were skipped.
     pub fn skipped(&self) -> u64
         ensures skipped { result ≡ self.now.skipped }
     {
         self.skipped
     }
 
-    /// The consumer position: the start and the spans of all records that were taken, discarded ones included.
+    /// Returns the consumer position: the start plus the spans of all records that were taken, including discarded
+    /// ones.
     pub fn position(&self) -> u64
         ensures position { result ≡ self.now.position }
     {
         self.position
     }
 
-    // The seat's pass, which is the consumer's role and what it has seen and got.
+    // Returns the seat's pass, which is the consumer's role, and what it has seen and received.
     pub(crate) fn into_pass(self) -> RingPass
         ensures ring { (result.table_id ≡ self.ring) × (result.me.1 ≡ []) }
         ensures knows { without_hands (view result) ≡ chapter_view (consumer_knowledge self ∷ []) None }

@@ -1,5 +1,5 @@
-//! The lock of a shared ring: a queue of one place, with the ring's state and its book of hands in it, or nothing while a thread has the state.
-//! Each seat has a pass, which is its right to use the lock.
+//! The lock of a shared ring: a queue of one place, which contains the ring's state with its book of hands, or nothing
+//! while a thread holds the state. Each seat has a pass, which is its right to use the lock.
 
 ghost use Rattle.std.specs.Prelude.{◌≡◌, [], Some, None, IfOk};
 ghost use Rattle.std.specs.FinMap.{empty};
@@ -19,7 +19,8 @@ use std::alloc::{AllocError, Global};
 use std::marker::Model;
 use std::sync::Wait;
 
-/// What a pass knows: its roles, and the state while it has it out. It exists in proofs alone; no value of it is made.
+/// What a pass knows: its roles, and the state while it holds it. It exists only in proofs; no value of it is ever
+/// created.
 pub struct PassKnowledge;
 
 impl Model for PassKnowledge {
@@ -38,7 +39,8 @@ impl Model for PassKnowledge {
     ghost view = { λ k. hand_view [] None };
 }
 
-/// A ring's state while it is in the lock. It is on the heap, so that taking it out and putting it back moves a pointer.
+/// A ring's state while it is in the lock. It is on the heap, so that taking it out and putting it back moves only a
+/// pointer.
 #[derive(Drop)]
 pub struct LockedState {
     ring: Box<HandState>,
@@ -59,7 +61,7 @@ impl Model for LockedState {
     ghost view = { λ r. r.ring.value };
 }
 
-/// The lock's rule with hands, which each step of each thread keeps.
+/// The lock's rule with hands: the invariant that each step of each thread preserves.
 pub struct LockRule;
 
 impl Protocol<LockedState, PassKnowledge> for LockRule {
@@ -116,7 +118,7 @@ impl Lesson<LockedState, PassKnowledge> for PutFirst {
     ghost fact = { λ v items. items ≡ [] };
 }
 
-/// Splits a pass's first role off, as a pass of its own.
+/// Splits off a pass's first role, as a separate pass.
 pub struct SplitFirstRole;
 
 impl Split<PassKnowledge> for SplitFirstRole {
@@ -129,7 +131,7 @@ impl Split<PassKnowledge> for SplitFirstRole {
     ghost right = { λ v. hand_view (first_hand_role v.knows) None };
 }
 
-/// Joins another pass's roles to a pass's own, in front of them.
+/// Prepends another pass's roles to those of a pass.
 pub struct JoinRoles;
 
 impl Join<PassKnowledge> for JoinRoles {
@@ -141,13 +143,13 @@ impl Join<PassKnowledge> for JoinRoles {
     ghost spent = { hand_view [] None };
 }
 
-/// A seat's right to use the lock, and what it has seen, sent or got, and holds.
+/// A seat's right to use the lock, with what it has seen, has sent or received, and holds.
 pub type RingPass = Pass<LockedState, PassKnowledge>;
 
-/// The queue of one place that holds a ring's state.
+/// The queue of one place that contains a ring's state.
 pub type Lock = RuledArrayQueue<LockedState, PassKnowledge, LockRule>;
 
-/// A lock without a state, and the pass that puts the first one in.
+/// Returns a lock without a state, and the pass that puts the first one in.
 pub(crate) fn new_lock(alloc: Global) -> Result<(Lock, RingPass), AllocError>
     ensures capacity { IfOk result (λ l. ruled_capacity l.0 ≡ 1) }
     ensures pass { IfOk result (λ l. IsPassOf l.0 l.1) }
@@ -156,8 +158,11 @@ pub(crate) fn new_lock(alloc: Global) -> Result<(Lock, RingPass), AllocError>
     Lock::ruled(alloc, 1)
 }
 
-/// Takes the state out, once it is there. A thread that finds the queue empty waits and looks again: at first until a batch is over, where one is taken, and else
-/// for longer each time. So the thread that used the ring last goes on with it behind a batch, and those that wait are not called all at once.
+/// Takes the state out as soon as it is available. A thread that finds the queue empty waits and tries again. A newly
+/// arrived thread polls the batch flag and, if a batch is in progress, tries again as soon as it ends. Otherwise, and
+/// from its second wait on, a thread backs off, for longer each time.
+///
+/// So after a batch the thread that used the ring last proceeds, and the waiting threads do not all retry at once.
 pub(crate) fn take_out<R: Wait>(
     rt: &R,
     lock: &Lock,
@@ -183,7 +188,7 @@ pub(crate) fn take_out<R: Wait>(
     unreachable!()
 }
 
-/// Puts the state back, after a call of the pass's one role.
+/// Puts the state back, after a call with the pass's one role.
 pub(crate) fn put_back<R: Wait>(rt: &R, lock: &Lock, pass: &mut RingPass, state: Box<HandState>)
     requires pass { IsPassOf lock.now pass.old × (ruled_capacity lock.now ≡ 1) }
     requires step { MayPutHands (view pass.old) state.value }

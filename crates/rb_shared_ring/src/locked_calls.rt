@@ -1,4 +1,4 @@
-//! The calls of a ring of one thread, each on the state that the lock holds. The lock is held for that one call alone.
+//! The calls of a ring of one thread, each on the state that the lock contains. The lock is held for one call only.
 
 ghost use Rattle.std.specs.Prelude.{◌≡◌, ◌<◌, ◌≤◌, None, Some, IfOk, IfErr, length, slice_set};
 ghost use Rattle.std.specs.Fn.{FnOnceTakesAtMut, FnOnceReturnsAtMut};
@@ -24,7 +24,7 @@ use rb_history::Notice;
 use rb_lend::Sheet;
 use std::sync::Wait;
 
-/// What the ring of one thread tells of each state.
+/// States the invariant of the ring of one thread for the state.
 pub(crate) fn facts_of(state: &HandState)
     ensures kept { IsKeptHandRing state.now }
 {
@@ -55,7 +55,7 @@ pub(crate) fn with_state<R: Wait, T, F: FnOnce(&mut HandState) -> T>(
     answer
 }
 
-/// `HandState::query`, for the worker whose pass it is.
+/// Calls `HandState::query` for the worker of this pass.
 pub(crate) fn query_with<R: Wait>(
     rt: &R,
     lock: &Lock,
@@ -87,8 +87,10 @@ pub(crate) fn query_with<R: Wait>(
 }
 
 #[inline(always)]
-/// `HandState::reserve`, into a free hand of the worker whose pass it is. It lends the state itself, so that it stands in line wherever a ring is
-/// called: a closure of several callers stands in line in none, and hands the record on through memory.
+/// Calls `HandState::reserve` with a free hand of the worker of this pass.
+///
+/// It takes the state out of the lock itself, so that it is inlined into each caller: a closure with several callers is
+/// not inlined, and would return the record through memory.
 pub(crate) fn reserve_with<R: Wait>(
     rt: &R,
     lock: &Lock,
@@ -125,8 +127,8 @@ pub(crate) fn reserve_with<R: Wait>(
 }
 
 #[inline(always)]
-/// `HandState::settle`, of a reservation that is out in a hand of the worker whose pass it is. There is no refusal. It lends
-/// the state itself, as `reserve_with` does.
+/// Calls `HandState::settle` with a reservation that is out in a hand of the worker of this pass. It is never refused.
+/// It takes the state out of the lock itself, as `reserve_with` does.
 pub(crate) fn settle_with<R: Wait>(
     rt: &R,
     lock: &Lock,
@@ -159,7 +161,8 @@ pub(crate) fn settle_with<R: Wait>(
 }
 
 #[inline(always)]
-/// `HandState::output`, for the worker whose pass it is. It needs no hand. It lends the state itself, as `reserve_with` does.
+/// Calls `HandState::output` for the worker of this pass. It needs no hand. It takes the state out of the lock itself,
+/// as `reserve_with` does.
 pub(crate) fn output_with<R: Wait>(
     rt: &R,
     lock: &Lock,

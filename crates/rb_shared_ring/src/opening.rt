@@ -1,4 +1,4 @@
-//! A shared ring over chapters is opened, with a seat for each worker and one for the consumer.
+//! Opening a shared ring, with a seat for each worker and one for the consumer.
 
 ghost use Rattle.std.specs.Prelude.{◌≡◌, ◌↔◌, IfOk, IsErrOf};
 ghost use Rattle.rb_history.specs.RingModel.{IsRingSize, IsStartPosition, IsWorkerCount};
@@ -16,9 +16,12 @@ use rb_chapter_ring::{HandState, OpenFault};
 use std::alloc::Global;
 use std::sync::Wait;
 
-/// A shared ring for 1 to 256 workers, with a seat for each, in the order of their numbers, whose four hands are free, and the consumer's. Each chapter of its history has
-/// room for `room` entries, 8 to 1,048,576. The tag is the caller's number for the ring, and all seats have it. Of the `OpenFault`s that
-/// apply the first is returned; `Memory` is the last. It takes all memory that the ring and its seats will ever need.
+/// Opens a shared ring for 1 to 256 workers. Returns the ring, a seat for each worker in the order of their numbers,
+/// whose four hands are free, and the consumer's seat.
+///
+/// Each chapter of the ring's history has room for `room` entries, 8 to 1,048,576. The tag is chosen by the caller to
+/// identify the ring, and all seats have it. Returns the first `OpenFault` that applies; `Memory` is the last.
+/// Allocates all memory that the ring and its seats will ever need.
 pub fn open<R: Wait>(
     rt: &R,
     alloc: Global,

@@ -1,12 +1,12 @@
-//! What never changes of a shared ring.
+//! The parameters of a shared ring, which never change.
 
-/// The numbers that a shared ring was opened with.
+/// The parameters with which a shared ring was opened.
 #[derive(Clone, Copy)]
 pub struct RingNumbers {
-    /// How many bytes the ring has.
+    /// The size of the ring in bytes.
     pub size: u64,
-    /// How many workers the ring has.
+    /// The number of workers.
     pub workers: u32,
-    /// How many entries each chapter of the ring has room for.
+    /// The room of each chapter, in entries.
     pub room: u32,
 }

@@ -1,4 +1,4 @@
-//! A ring over chapters that threads share.
+//! A ring that threads share.
 
 ghost use Rattle.std.specs.Prelude.{◌≡◌, ◌≢◌, ◌≤◌, ◌↔◌, ◌⊎◌, Ok, IfOk, OnOk, IfErr, IsOk, IsErr, IsTrue, None, length, slice_set};
 ghost use Rattle.std.specs.FinMap.{insert};
@@ -25,24 +25,26 @@ use std::marker::Model;
 use std::sync::Wait;
 use thiserror::Error;
 
-/// The seat's tag is not the ring's. Nothing changed.
+/// The fault of a call whose seat belongs to another ring: their tags differ. Nothing changed.
 #[derive(Clone, Copy, Debug, Error, PartialEq, Eq)]
 #[error("the seat is another ring's")]
 pub struct Foreign;
 
-/// A ring that threads share by `&`, whose memory does not grow. Its state is under a lock, which a call holds while it makes one call of the
-/// ring of one thread, and no longer: when a call returns, its seat has the state no more (`released`), so no record is written under
-/// the lock. No call of a seat takes memory.
+/// A ring that threads share by `&`, and whose memory does not grow. Its state is under a lock, which a call holds for
+/// one call of the ring of one thread only: when a call returns, its seat no longer holds the state (`released`), so no
+/// record is written under the lock. No call with a seat allocates.
 ///
-/// Each call takes the caller's seat. The ring has one history. Up to the moment of the call it begins with all that the seat has seen, and what
-/// was added since is other roles'; there the ring of one thread, with its whole history, answers as this call does for the seat's worker; and
-/// the seat has then seen the whole history with this call in it (`call`). Of that history the ring keeps the entries that were not handed out, and it
-/// has room for so many. The seat knows that room and how many were handed out (`room`, `cut`: never fewer than before), so that `ChapterFull` is told exactly where there is no
-/// room for what the call would log. A seat that was opened with another tag is `Foreign`. Rings with the same tag are not told
-/// apart: each call requires that a seat with the ring's tag was opened with this ring.
+/// Each call takes the caller's seat. The ring has one history. At the moment of the call, that history extends what
+/// the seat has seen by entries of other roles only; there the ring of one thread, with its whole history, returns what
+/// this call returns for the seat's worker; and afterwards the seat has seen the whole history including this call
+/// (`call`). The ring keeps the entries of that history that were not handed out yet, and has room for a fixed number
+/// of them. The seat knows that room and how many entries were handed out (`room`, `cut`: never fewer than before), so
+/// `ChapterFull` is returned if and only if there is no room for what the call would log. A seat that was opened with
+/// another tag is `Foreign`. Rings with the same tag can't be told apart: each call requires that a seat with the
+/// ring's tag was opened with this ring.
 ///
-/// Each call may wait for other threads. No proof says that a call returns, that threads get their turns in any order, or how long
-/// one takes.
+/// Each call may wait for other threads. No proof says that a call returns, that threads get their turns in any order,
+/// or how long a call takes.
 #[derive(Drop)]
 pub struct SharedRing {
     pub(crate) tag: u64,
@@ -67,7 +69,7 @@ impl Model for SharedRing {
 }
 
 impl SharedRing {
-    /// The caller's number for the ring.
+    /// Returns the tag that the caller of `open` chose for the ring.
     pub fn tag(&self) -> u64
         ensures tag { result ≡ self.now.tag }
     {
@@ -75,9 +77,12 @@ impl SharedRing {
     }
 
     #[inline(always)]
-    /// Grants the seat's worker a record of `n` bytes into the seat's lowest free hand, in a sheet of as many, which become zeros. `Foreign` comes first,
-    /// then `HandsFull`, where no hand is free; `Full` is logged, and raises the refused count; `ChapterFull`, where there is no room for the entries
-    /// that it would log, changes nothing. A refusal hands the sheet back.
+    /// Grants the seat's worker a record of `n` bytes, all zeros, into the seat's lowest free hand. The record uses
+    /// `sheet`, which must have `n` bytes and is cleared.
+    ///
+    /// Returns `Foreign` first, and then `HandsFull` if no hand is free. `Full` is logged and counted as refused.
+    /// `ChapterFull` changes nothing: the chapter has no room for the entries that would be logged. A refusal returns
+    /// the sheet.
     pub fn reserve<R: Wait>(
         &self,
         rt: &R,
@@ -132,7 +137,7 @@ impl SharedRing {
         answer
     }
 
-    // Whether the reservation is one that the seat may give back to the ring.
+    // Returns whether the seat may commit this reservation at the ring.
     fn is_held_by(&self, seat: &Seat, reservation: &Reservation) -> bool
         ensures exact { IsTrue result ↔ IsInSeatsHand self.now seat.now reservation.now }
     {
@@ -143,9 +148,11 @@ impl SharedRing {
     }
 
     #[inline(always)]
-    /// Hands the reservation's bytes to the consumer, and frees the seat's hand. The reservation is handed back, and nothing changes, exactly where the
-    /// seat is foreign, the reservation's tag or worker is not the seat's, or the seat's hand of its number is not out with its position, serial
-    /// and length. Of the flags only bits 0 and 1 are looked at.
+    /// Submits the reservation's record, so that the consumer can take it with its bytes, and frees the seat's hand.
+    ///
+    /// Returns the reservation, and changes nothing, if and only if the seat is foreign, the reservation's tag or
+    /// worker is not the seat's, or the seat's hand with its number does not hold its position, serial and length. Only
+    /// bits 0 and 1 of the flags are used.
     pub fn submit<R: Wait>(
         &self,
         rt: &R,
@@ -167,7 +174,8 @@ impl SharedRing {
         self.settle(rt, seat, reservation, RecordEnd::Submit, flags)
     }
 
-    /// Gives the reservation's record up, so that the consumer passes over it, and frees the seat's hand. It is handed back as in `submit`.
+    /// Discards the reservation's record, so that the consumer skips it, and frees the seat's hand. Returns the
+    /// reservation in the same cases as `submit`.
     pub fn discard<R: Wait>(
         &self,
         rt: &R,
@@ -190,7 +198,8 @@ impl SharedRing {
     }
 
     #[inline(always)]
-    /// Ends the reservation's record as `submit` or as `discard`, and frees the seat's hand. It is handed back as in `submit`.
+    /// Submits or discards the reservation's record, as `end` says, and frees the seat's hand. Returns the reservation
+    /// in the same cases as `submit`.
     pub fn settle<R: Wait>(
         &self,
         rt: &R,
@@ -230,8 +239,10 @@ impl SharedRing {
     }
 
     #[inline(always)]
-    /// Grants the seat's worker a record and submits it at once, with the sheet's bytes. `Foreign` comes first, then `Flags` for flags
-    /// above 3, which logs nothing; else it refuses as `reserve` does, but it needs no hand. A refusal hands the sheet back.
+    /// Grants the seat's worker a record with the sheet's bytes and submits it in the same call. It needs no hand.
+    ///
+    /// Returns `Foreign` first, then `Flags` for flags greater than 3, which is not logged; otherwise it refuses as
+    /// `reserve` does. A refusal returns the sheet.
     pub fn output<R: Wait>(
         &self,
         rt: &R,
@@ -267,8 +278,9 @@ impl SharedRing {
         answer
     }
 
-    /// The answers to a query (bpf-helpers(7), bpf_ringbuf_query): 0 asks for the bytes between the two positions, 1 for the size, 2 for
-    /// the consumer position and 3 for the producer position; any other number gives 0. They are those of one moment.
+    /// Returns the answer to a query (bpf-helpers(7), bpf_ringbuf_query), as of one moment: 0 asks for the number of
+    /// bytes between the two positions, 1 for the size, 2 for the consumer position and 3 for the producer position.
+    /// The answer to any other number is 0.
     pub fn query<R: Wait>(&self, rt: &R, seat: &mut Seat, what: u64) -> Result<u64, Foreign>
         requires ring { seat.old.tag ≡ self.now.tag → seat.old.ring ≡ self.now.ring }
         ensures foreign { IsErr result ↔ (seat.old.tag ≢ self.now.tag) }

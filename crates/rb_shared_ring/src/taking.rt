@@ -1,4 +1,4 @@
-//! The consumer takes records, one or many.
+//! The consumer's calls that take records.
 
 ghost use Rattle.std.specs.Prelude.{◌≡◌, ◌≢◌, ◌+◌, ◌<◌, ◌≤◌, ◌^◌, ◌↔◌, ◌++◌, IfOk, OnOk, IsErr, None, length, vec_len, vec_capacity};
 ghost use Rattle.crossbeam_queue.specs.Passes.{view, IsPassOf, IsSamePass, ruled_capacity};
@@ -24,7 +24,7 @@ use crate::shared::{Foreign, SharedRing};
 use rb_history::{Taken, span};
 use std::sync::Wait;
 
-// `RingState::take`, for the consumer.
+// Calls `RingState::take` for the consumer.
 fn take_with<R: Wait>(rt: &R, lock: &Lock, batch: &BatchFlag, pass: &mut RingPass) -> Taken
     requires pass { IsPassOf lock.now pass.old × (ruled_capacity lock.now ≡ 1) }
     requires idle { IsIdleWith Consumer (view pass.old) }
@@ -46,7 +46,8 @@ fn take_with<R: Wait>(rt: &R, lock: &Lock, batch: &BatchFlag, pass: &mut RingPas
     )
 }
 
-// `RingState::take_many`, for the consumer. The lock is held for all of its takes, and for nothing else; the flag is up meanwhile.
+// Calls `RingState::take_many` for the consumer. The lock is held for all of its takes and for nothing else, with the
+// batch flag raised.
 fn take_many_with<R: Wait>(
     rt: &R,
     lock: &Lock,
@@ -79,8 +80,9 @@ fn take_many_with<R: Wait>(
 }
 
 impl SharedRing {
-    /// Takes the record at the consumer position: returns a submitted one with its bytes, and skips a discarded one; both raise a count of
-    /// the seat and move its position. A busy record stops it, whatever is behind.
+    /// Takes the record at the consumer position: returns a submitted one with its bytes, or skips a discarded one.
+    /// Both increase a count of the seat and advance its position. A busy record stops it, whatever is after that
+    /// record.
     pub fn take<R: Wait>(&self, rt: &R, seat: &mut ConsumerSeat) -> Result<Taken, Foreign>
         requires ring { seat.old.tag ≡ self.now.tag → seat.old.ring ≡ self.now.ring }
         ensures foreign { IsErr result ↔ (seat.old.tag ≢ self.now.tag) }
@@ -105,10 +107,13 @@ impl SharedRing {
         Ok(answer)
     }
 
-    /// Takes up to `n` records, as so many calls of `take` with nothing between them, pushes each that was handed out or skipped onto
-    /// `out`, and returns how many they are. It stops before the first take that finds a busy record or none. The lock is held once, for
-    /// these takes alone, each of which takes constant time; no memory is taken. `Foreign` comes first, and leaves `out` as it was.
-    /// (Linux Documentation/bpf/ringbuf.rst: records are consumed in the order of their reservation.)
+    /// Takes up to `n` records, as `n` calls of `take` with nothing between them, and pushes each that was returned or
+    /// skipped onto `out`. Returns how many these are. (Linux Documentation/bpf/ringbuf.rst: records are consumed in
+    /// the order of their reservation.)
+    ///
+    /// It stops before the first take that finds a busy record or no record. The lock is acquired once, for these takes
+    /// only, each of which takes constant time; nothing is allocated. Returns `Foreign` first, and then leaves `out` as
+    /// it was.
     pub fn take_many<R: Wait>(
         &self,
         rt: &R,
@@ -152,14 +157,14 @@ impl SharedRing {
     }
 }
 
-// What some takes add to the consumer's numbers.
+// What several takes add to the consumer's counts.
 struct Moves {
     events: u64,
     skips: u64,
     span: u64,
 }
 
-// What these answers of `take` add.
+// Returns what these results of `take` add.
 fn moves_of(answers: &[Taken]) -> Moves
     requires events { events_among answers.now < 2 ^ 64 }
     requires skips { skips_among answers.now < 2 ^ 64 }
@@ -181,7 +186,7 @@ fn moves_of(answers: &[Taken]) -> Moves
     moves
 }
 
-// How many events an answer of `take` is.
+// Returns the number of events in a result of `take`: 0 or 1.
 fn events(answer: &Taken) -> u64
     ensures events { result ≡ events_in answer.now }
 {
@@ -191,7 +196,7 @@ fn events(answer: &Taken) -> u64
     }
 }
 
-// How many records an answer of `take` passed over.
+// Returns the number of records that a result of `take` skipped: 0 or 1.
 fn skips(answer: &Taken) -> u64
     ensures skips { result ≡ skips_in answer.now }
 {
@@ -201,7 +206,7 @@ fn skips(answer: &Taken) -> u64
     }
 }
 
-// How far an answer of `take` moves the consumer position.
+// Returns how far a result of `take` advances the consumer position.
 fn span_taken(answer: &Taken) -> u64
     ensures span { result ≡ span_in answer.now }
 {

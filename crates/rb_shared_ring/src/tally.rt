@@ -1,4 +1,4 @@
-//! What an answer adds to a seat's numbers.
+//! What a result adds to a seat's counts.
 
 ghost use Rattle.std.specs.Prelude.{◌≡◌, ◌<◌, ◌≤◌, ◌^◌};
 ghost use Rattle.rb_chapter_ring.specs.declared.faults.ReserveFault.TheVariants.{Full as FaultFull};
@@ -9,7 +9,7 @@ use rb_chapter_ring::{RecordEnd, Reservation, ReserveFault};
 use rb_history::{Notice, Tally};
 use rb_lend::Sheet;
 
-// After a refusal.
+// Returns the counts after a refusal.
 fn after_fault(tally: Tally, fault: ReserveFault) -> Tally
     requires fits { fault ≡ FaultFull → tally.refused < 2 ^ 62 }
     ensures counted { result ≡ refused_in_room_by tally fault }
@@ -23,7 +23,7 @@ fn after_fault(tally: Tally, fault: ReserveFault) -> Tally
     }
 }
 
-/// After a reservation that was answered so.
+/// Returns the counts after a reservation with this result.
 pub(crate) fn after_reserve(
     tally: Tally,
     answer: &Result<Reservation, (ReserveFault, Sheet)>,
@@ -41,7 +41,7 @@ pub(crate) fn after_reserve(
     }
 }
 
-/// After an output that was answered so.
+/// Returns the counts after an output with this result.
 pub(crate) fn after_output(tally: Tally, answer: &Result<Notice, (ReserveFault, Sheet)>) -> Tally
     requires made { tally.made ≤ 2 ^ 62 }
     requires submitted { tally.submitted ≤ 2 ^ 62 }
@@ -58,7 +58,7 @@ pub(crate) fn after_output(tally: Tally, answer: &Result<Notice, (ReserveFault, 
     }
 }
 
-/// After the end of a record.
+/// Returns the counts after the commit of a record.
 pub(crate) fn after_end(tally: Tally, end: RecordEnd) -> Tally
     requires submitted { tally.submitted ≤ 2 ^ 62 }
     requires discarded { tally.discarded ≤ 2 ^ 62 }

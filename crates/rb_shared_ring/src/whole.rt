@@ -1,4 +1,4 @@
-//! A closed ring and its chapters are bound to the whole history.
+//! Binding a closed ring and its chapters to the whole history.
 
 ghost use Rattle.std.specs.Prelude.{◌≡◌, ◌↔◌, ◌++◌, ◌∷◌, [], IfOk, IfErr};
 ghost use Rattle.rb_history.specs.Legal.{IsLegal};
@@ -14,7 +14,8 @@ use rb_ledger::{BindFault, bind_chapters};
 use std::alloc::Global;
 use std::marker::Model;
 
-/// A closed ring with the chapters that it was bound to, and its whole history: the entries of all chapters, joined.
+/// A closed ring with the chapters to which it was bound, and its whole history: the entries of all chapters,
+/// concatenated.
 #[derive(Drop)]
 pub struct Whole {
     closing: Closing,
@@ -41,29 +42,29 @@ impl Model for Whole {
 }
 
 impl Whole {
-    /// What holds of each whole history: it has the entries of its chapters and then those of the last one, is legal, and is what the last
-    /// chapter stands for.
+    /// States the invariant: the whole history consists of the entries of its chapters, followed by those of the last
+    /// one; it is legal; and its summary is the one at the end of the last chapter.
     pub fn facts(&self)
         ensures bound { IsBound self.now.chapters self.now.closed.at_end.chapter self.now.history }
     {
         let _ = &self.history;
     }
 
-    /// The closed ring, with its last chapter.
+    /// Returns the closed ring, with its last chapter.
     pub fn closing(&self) -> &Closing
         ensures closed { result.now ≡ self.now.closed }
     {
         &self.closing
     }
 
-    /// The chapters that it was bound to, oldest first, without the last one, which the closed ring has.
+    /// Returns the chapters to which it was bound, the oldest first, without the last one, which the closed ring has.
     pub fn chapters(&self) -> &[Chapter]
         ensures chapters { result.now ≡ self.now.chapters }
     {
         self.chapters.as_slice()
     }
 
-    /// The whole history, oldest entry first.
+    /// Returns the whole history, the oldest entry first.
     pub fn history(&self) -> &[Entry]
         ensures entries { result.now ≡ self.now.history }
     {
@@ -72,10 +73,12 @@ impl Whole {
 }
 
 impl Closing {
-    /// Joins the entries of chapters and of the ring's last one, behind them, to one history, which is legal. Of the faults that apply the
-    /// first is returned, and all is handed back. Whatever chapters were bound, all seats with which the ring was closed tie to the history;
-    /// where they are those that the ring handed out, it is the ring's whole history, and all are gathered. In time linear in the entries,
-    /// and in each chapter's untaken records and workers.
+    /// Concatenates the entries of the chapters and of the ring's last chapter to one history, which is legal.
+    ///
+    /// Returns the first `BindFault` that applies, with everything that was passed in. Whatever chapters were bound,
+    /// all seats with which the ring was closed agree with the history. If the chapters are those that the ring handed
+    /// out, it is the ring's whole history, and all seats are gathered. Takes time linear in the number of entries, and
+    /// in each chapter's untaken records and workers.
     pub fn bind(
         self,
         alloc: Global,

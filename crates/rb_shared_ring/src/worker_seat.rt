@@ -1,4 +1,4 @@
-//! A worker's seat at a shared ring over chapters.
+//! A worker's seat at a shared ring.
 
 ghost use Rattle.std.specs.Prelude.{◌≡◌, ◌<◌, [], ◌∷◌, None, length};
 ghost use Rattle.std.specs.FinMap.{empty};
@@ -18,10 +18,12 @@ use rb_chapter_ring::OutRecord;
 use rb_history::Tally;
 use std::marker::Model;
 
-/// A worker's seat at a shared ring: the right to make calls for this worker, and the worker's numbers. It can't be cloned, so a worker
-/// has one; it may be sent to another thread. It has four hands, in which the records are that it was granted and has not given back. Contracts also
-/// see the whole history up to the seat's last call, how many of its entries had been handed out in chapters, how many entries each chapter has
-/// room for, and the bytes that the seat sent, by position.
+/// A worker's seat at a shared ring (its handle to the ring): the right to make calls for this worker, and the worker's
+/// counts. It can't be cloned, so a worker has one; it may be sent to another thread.
+///
+/// A seat has four hands, which hold the records that were granted to it and that it has not committed yet. Contracts
+/// also see the whole history up to the seat's last call, how many of its entries had been handed out in chapters, the
+/// room of each chapter in entries, and the bytes that the seat sent, by position.
 #[derive(Drop)]
 pub struct Seat {
     pub(crate) tag: u64,
@@ -67,9 +69,9 @@ impl Model for Seat {
 }
 
 impl Seat {
-    /// What holds of each seat: what it has seen is legal, its numbers are those of its worker's entries there, it submitted and
-    /// discarded no more records than it was granted, what is in its four hands are exactly its worker's busy records there, each once, and it does
-    /// not have the ring's state out of the lock.
+    /// States the invariant of a seat: the history that it has seen is legal; its counts are those of its worker's
+    /// entries in it; it submitted and discarded at most as many records as were granted to it; its four hands hold
+    /// exactly its worker's busy records in that history, each once; and it does not hold the ring's state.
     pub fn facts(&self)
         ensures book { IsBook self.now.seen }
         ensures ties { Ties self.now.worker self.now.tally self.now.seen }
@@ -81,49 +83,49 @@ impl Seat {
         let _ = &self.tag;
     }
 
-    /// The number of the ring that the seat was opened with, as its caller gave it.
+    /// Returns the tag of the ring with which the seat was opened.
     pub fn tag(&self) -> u64
         ensures tag { result ≡ self.now.tag }
     {
         self.tag
     }
 
-    /// The worker's number, from 0.
+    /// Returns the worker's number, counted from 0.
     pub fn worker(&self) -> u32
         ensures worker { result ≡ self.now.worker }
     {
         self.worker
     }
 
-    /// How many records the seat was granted.
+    /// Returns the number of records that were granted to the seat.
     pub fn made(&self) -> u64
         ensures made { result ≡ self.now.tally.made }
     {
         self.tally.made
     }
 
-    /// How many of its reservations and outputs found no room in the ring, and were logged.
+    /// Returns the number of its reservations and outputs that were refused for lack of room in the ring, and logged.
     pub fn refused(&self) -> u64
         ensures refused { result ≡ self.now.tally.refused }
     {
         self.tally.refused
     }
 
-    /// How many records it submitted, those that it output among them.
+    /// Returns the number of records that it submitted, including outputs.
     pub fn submitted(&self) -> u64
         ensures submitted { result ≡ self.now.tally.submitted }
     {
         self.tally.submitted
     }
 
-    /// How many records it discarded.
+    /// Returns the number of records that it discarded.
     pub fn discarded(&self) -> u64
         ensures discarded { result ≡ self.now.tally.discarded }
     {
         self.tally.discarded
     }
 
-    /// The position of the record that is out in one of the seat's hands, if one is.
+    /// Returns the position of the record in one of the seat's hands, if there is one.
     pub fn hand(&self, h: u32) -> Option<u64>
         requires hand { h < 4 }
         ensures position { result ≡ position_of (in_hand self.now.hands h) }
@@ -134,7 +136,7 @@ impl Seat {
         }
     }
 
-    // The seat's pass, which is its role and what it has seen and sent.
+    // Returns the seat's pass, which is its role, and what it has seen and sent.
     pub(crate) fn into_pass(self) -> RingPass
         ensures ring { (result.table_id ≡ self.ring) × (result.me.1 ≡ []) }
         ensures knows { view result ≡ hand_view (known_with (Worker self.worker) (view result) ∷ []) None }

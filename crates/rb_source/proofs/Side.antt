@@ -1,4 +1,4 @@
--- Contexts side by side.
+-- Consecutive contexts in memory.
 use Rattle.std.proofs.Common.{◌≡◌, ℕ, suc, Bool, true, false, cond, ◌+◌, ◌*◌, ◌/◌, ◌-◌, ◌<◌, ◌≤◌, max, List, [], ◌∷◌, ◌++◌, length, take, drop, get_or, min, replicate, refl, take-append-drop, ap, ◌∙◌, arith, add-one}
 use Rattle.std.proofs.lemmas.List.{drop-drop, take-append-le, drop-append-le, length-append, length-drop, length-take-le, length-replicate}
 use Rattle.std.proofs.Math.Nat.{le-div_iff_mul-le, div-mul-le_self, mul-le-mul_right}
@@ -30,7 +30,7 @@ more c ℕ.zero bytes = let e : 0 * c ≡ 0 = omega arith in rw e refl
 more c (suc n) bytes =
     ap (λ cs. take c bytes ∷ cs) (more c n (drop c bytes) ∙ ap (λ b. side_by_side c n (drop c bytes) ++ take c b ∷ []) (drop-drop (n * c) c bytes ∙ ap (λ m. drop m bytes) (times-suc n c)))
 
--- bytes that are the same in front
+-- bytes with the same front
 same_front : (c n : ℕ) (front a b : List ℕ) → length front ≡ n * c → side_by_side c n (front ++ a) ≡ side_by_side c n (front ++ b)
 same_front c ℕ.zero front a b e = refl
 same_front c (suc n) front a b e =
@@ -38,7 +38,7 @@ same_front c (suc n) front a b e =
     let rest : length (drop c front) ≡ n * c = omega (arith, times-suc n c, length-drop c front) in
     rw (take-append-le c front a long, take-append-le c front b long, drop-append-le c front a long, drop-append-le c front b long) (ap (λ cs. take c front ∷ cs) (same_front c n (drop c front) a b rest))
 
--- bytes that are written behind them are one more
+-- bytes that are written after them are one more
 pub side_by_side-written : (c n : ℕ) (front one behind before : List ℕ) → length front ≡ n * c → length one ≡ c → side_by_side c (n + 1) (front ++ (one ++ behind)) ≡ side_by_side c n (front ++ before) ++ one ∷ []
 side_by_side-written c n front one behind before e f =
     let at : drop (n * c) (front ++ (one ++ behind)) ≡ one ++ behind = rw (← e) (drop-append_seam front (one ++ behind)) in
@@ -52,7 +52,7 @@ place_inside room c count h =
     let e : count * c + c ≡ suc count * c = omega arith in
     rw e (mul-le-mul_right c less)
 
--- the memory is 64 KiB at most
+-- the memory has at most 64 KiB
 pub memory_small : (c : ℕ) → room_for c * c ≤ 65536
 memory_small ℕ.zero = let e : room_for 0 * 0 ≡ 0 = omega arith in rw e (omega arith)
 memory_small (suc c) = let e : max 1 (suc c) ≡ suc c = omega arith in rw e (div-mul-le_self 65536 (suc c))
@@ -64,7 +64,7 @@ place_small c room count k bytes m h =
     let small : room * c ≤ 65536 = rw m.room_is (memory_small c) in
     (omega arith, omega (arith, m.memory))
 
--- one that is written over the memory, up to place `behind`
+-- a context that is written over the memory, up to index `behind`
 pub length_written : (at behind : ℕ) (bytes one : List ℕ) → behind ≡ at + length one → at + length one ≤ length bytes → length (take at bytes ++ (one ++ drop behind bytes)) ≡ length bytes
 length_written at behind bytes one e h = simp (length-append, length-drop) (let l = length-take-le at bytes (omega arith) in omega arith)
 
@@ -73,7 +73,7 @@ written c n behind bytes one h e =
     side_by_side-written c n (take (n * c) bytes) one (drop behind bytes) (drop (n * c) bytes) (length-take-le (n * c) bytes (omega arith)) e
     ∙ ap (λ b. side_by_side c n b ++ one ∷ []) (take-append-drop (n * c) bytes)
 
--- a context of the form is as long as the form says
+-- a context of the form has the form's length
 length_body : (len total : ℕ) (front : List ℕ) → min total len ≤ length front → length (take (min total len) front ++ replicate (len - min total len) 0) ≡ len
 length_body len total front h = simp (length-append, length-replicate) (let l = length-take-le (min total len) front h in omega arith)
 

@@ -27,7 +27,7 @@ use Rattle.rb_source.specs.Framing.Portion.{Content, Flush}
 use Rattle.rb_source.specs.Stream.{AreCounts, FramedInput, Gives, GivesFrom, IsOver, IsBegun, IsLongPart, IsPart, line_of}
 use Rattle.rb_source.specs.StreamLaws.{both_from, next_from, nothing_from}
 
--- what came of the unfinished context
+-- the part of the unfinished context that arrived
 abbrev pub PartOf : Option Long → Framing → ℕ → List ℕ → List ℕ → List ℕ → Type 0
 PartOf long framing len kept rest part = MatchOption long (part ≡ rest) (λ l. IsLongPart framing len kept rest l part)
 
@@ -40,7 +40,7 @@ short_part long framing len kept rest e = let P : Option Long → Type 0 = λ l.
 pub part_long : (long : Option Long) (l : Long) (framing : Framing) (len : ℕ) (kept rest part : List ℕ) → long ≡ Some l → PartOf long framing len kept rest part → IsLongPart framing len kept rest l part
 part_long long l framing len kept rest part e h = let P : Option Long → Type 0 = λ o. PartOf o framing len kept rest part in subst P e h
 
--- more bytes came
+-- more bytes arrived
 pub part_grows : (long : Option Long) (framing : Framing) (len : ℕ) (kept rest part bytes : List ℕ) → PartOf long framing len kept rest part → PartOf long framing len kept (rest ++ bytes) (part ++ bytes)
 part_grows None framing len kept rest part bytes h = ap (λ p. p ++ bytes) h
 part_grows (Some l) framing len kept rest part bytes h = record {
@@ -165,7 +165,7 @@ appends_both remaining a b c p q r open_yet one two = record {
       both_from remaining a.framing a.form a b c part one.given two.given open_yet f (next_from remaining a.framing a.form b c f.left two.given f.framing_same f.form_same (two.from f.left f.left_is));
 }
 
--- a step that appends leaves the length of the contexts
+-- a step that appends does not change the length of the contexts
 pub same_len : {R : Type 0} (remaining : R → Option (List ℕ)) (a b : FramedInput R) (p q : PieceContents) → Appends remaining a b p q → p.ctx_len ≡ form_len a.form → q.ctx_len ≡ form_len b.form
 same_len remaining a b p q one e = ap {A = PieceContents} (λ x. x.ctx_len) one.piece_is ∙ e ∙ ap form_len (sym one.same)
 
@@ -185,7 +185,7 @@ over_gives remaining s over before =
     let new : FramedInput _ = record s { over = over } in
     gives_none remaining s new before (record { same = refl; from = λ part h. stays_on remaining s new part h refl refl refl refl })
 
--- the portion at the front of what was read is a context
+-- the portion at the front of the read bytes is a context
 pub took_content : {R : Type 0} (remaining : R → Option (List ℕ)) (old new : FramedInput R) (came front : List ℕ) (total span : ℕ)
     → old.long ≡ None → new.long ≡ None → BeginsWith old.framing old.form.len old.rest (Content came) span → new.rest ≡ drop span old.rest
     → new.reader ≡ old.reader → new.framing ≡ old.framing → new.form ≡ old.form
@@ -196,7 +196,7 @@ took_content remaining old new came front total span short still begins rest rea
     (part_short old.long old.framing old.form.len old.kept old.rest part short h ∙ begins.text ∙ ap (λ r. portion_bytes old.framing (Content came) ++ r) (sym rest))
     reader framing form (given_known old.form came front total lawful known) (λ _. counts ∙ counted_known old.form came front old.counts total lawful known)
 
--- it is the wish that what came before is given at once
+-- the portion is a flush
 pub took_flush : {R : Type 0} (remaining : R → Option (List ℕ)) (old new : FramedInput R) (span : ℕ)
     → old.long ≡ None → new.long ≡ None → BeginsWith old.framing old.form.len old.rest Flush span → new.rest ≡ drop span old.rest
     → new.reader ≡ old.reader → new.framing ≡ old.framing → new.form ≡ old.form → new.counts ≡ old.counts → (part : List ℕ) → IsPart old part → GivesFrom remaining old.framing old.form old part [] new
@@ -218,7 +218,7 @@ kept_known len kept body more longer e =
     let same : len ≤ len = omega arith in
     ap (take len) e ∙ take-take len len body same ∙ sym (take-append-le len body more less)
 
--- a part of a frame came
+-- a part of a frame arrived
 pub frame_passes : (framing : Framing) (len : ℕ) (kept rest part : List ℕ) (total missing count : ℕ) → count ≤ length rest → count < missing
     → IsLongPart framing len kept rest (Frame total missing) part → IsLongPart framing len kept (drop count rest) (Frame total (missing - count)) part
 frame_passes framing len kept rest part total missing count inside less h =
@@ -243,7 +243,7 @@ frame_passes framing len kept rest part total missing count inside less h =
 four : (a b c d : List ℕ) → (a ++ b) ++ (c ++ d) ≡ (a ++ (b ++ c)) ++ d
 four a b c d = simp append_assoc
 
--- all of it came
+-- the rest of the frame arrived
 pub frame_ends : {R : Type 0} (remaining : R → Option (List ℕ)) (old new : FramedInput R) (total missing : ℕ)
     → old.long ≡ Some (Frame total missing) → new.long ≡ None → missing ≤ length old.rest → new.rest ≡ drop missing old.rest
     → new.reader ≡ old.reader → new.framing ≡ old.framing → new.form ≡ old.form
@@ -272,7 +272,7 @@ HasNoLineFeed-append : (xs ys : List ℕ) → HasNoLineFeed xs → HasNoLineFeed
 HasNoLineFeed-append [] ys a b = b
 HasNoLineFeed-append (x ∷ xs) ys a b = (a.0, HasNoLineFeed-append xs ys a.1 b)
 
--- a part of a line came
+-- a part of a line arrived
 pub line_passes : (framing : Framing) (len : ℕ) (kept rest part : List ℕ) (total now : ℕ) → HasNoLineFeed rest → now ≡ min (total + length rest) largest_u32
     → IsLongPart framing len kept rest (Line total) part → IsLongPart framing len kept [] (Line now) part
 line_passes framing len kept rest part total now none e h =
@@ -292,7 +292,7 @@ line_passes framing len kept rest part total now none e h =
       text = h.text ∙ sym (append-nil (h.begun ++ rest));
     }
 
--- all of it came
+-- the rest of the line arrived
 pub line_ends : {R : Type 0} (remaining : R → Option (List ℕ)) (old new : FramedInput R) (total now place : ℕ)
     → old.long ≡ Some (Line total) → new.long ≡ None → FindsLineFeed old.rest (Some place) → now ≡ min (total + place) largest_u32 → new.rest ≡ drop (place + 1) old.rest
     → new.reader ≡ old.reader → new.framing ≡ old.framing → new.form ≡ old.form
@@ -343,12 +343,12 @@ frame_is_cut framing len kept rest part total missing none h =
     let partial : IsPartial Frames len part = inr (total, h.begun_is.4, ap (take 4) is ∙ take-append-le 4 le h.body (omega arith), (let e = h.begun_is.2 in let m = h.begun_is.3 in omega arith)) in
     ((λ e. (let z = ap length e in omega arith)), subst P (sym h.begun_is.0) partial)
 
--- ---- the beginning of a long context
+-- ---- the start of a long context
 
 same_total : (m n : ℕ) → m < 2 ^ 32 → n < 2 ^ 32 → to_le_bytes w32 m ≡ to_le_bytes w32 n → m ≡ n
 same_total m n hm hn e = sym (from_le_bytes-to_le_bytes_4 m hm) ∙ ap (from_le_bytes w32) e ∙ from_le_bytes-to_le_bytes_4 n hn
 
--- the length of a frame of which a part is there
+-- the length of a frame of which a part arrived
 pub partial_total : (len : ℕ) (bytes : List ℕ) (total : ℕ) → IsPartial Frames len bytes → 4 ≤ length bytes → take 4 bytes ≡ to_le_bytes w32 total → total < 2 ^ 32 → (total < flush_length) × (length bytes < 4 + total)
 partial_total len bytes total (inl short) more e small = absurd (omega arith)
 partial_total len bytes total (inr (n, less, is, cut)) more e small =
@@ -379,7 +379,7 @@ line_begins len kept bytes none full fits k = record {
   text = sym (append-nil bytes);
 }
 
--- ---- each step, as its function says it
+-- ---- each step, as its function's contract states it
 
 pub flush_front : {R : Type 0} (remaining : R → Option (List ℕ)) (old : FramedInput R) (rest : List ℕ) (before : PieceContents)
     → old.long ≡ None → BeginsWith old.framing old.form.len old.rest Flush 4 → rest ≡ drop 4 old.rest → Appends remaining old (record old { rest = rest }) before before
@@ -483,7 +483,7 @@ line_begun remaining old total rest kept lines short partial full lawful k t r =
     subst (IsLongPart old.framing old.form.len kept rest (Line total)) (sym (part_short old.long old.framing old.form.len old.kept old.rest part short h)) long in
     record { same = refl; from = λ part h. stays_on remaining old new part (is part h) refl refl refl refl }
 
--- a window that is full holds no whole context of a fixed length only if there is none
+-- a full window always holds a whole context of a fixed length
 pub fixed_fits : (framing : Framing) (form : Form) (bytes : List ℕ) → framing ≡ Fixed → IsForm form → IsPartial framing form.len bytes → length bytes ≡ 131072 → ⊥
 fixed_fits framing form bytes fixed lawful partial full =
     let P : Framing → Type 0 = λ f. IsPartial f form.len bytes in

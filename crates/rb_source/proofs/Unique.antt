@@ -1,4 +1,4 @@
--- The bytes of a stream have one list of portions, and one rest.
+-- The bytes of a stream have a unique list of portions, and a unique rest.
 use Rattle.std.proofs.Common.{◌≡◌, ◌≢◌, ℕ, suc, ◌+◌, ◌<◌, ◌≤◌, ◌^◌, true, false, Option, None, Some, List, [], ◌∷◌, ◌++◌, length, take, drop, refl, sym, ap, ◌∙◌, subst, append_assoc, append-nil, take-append-drop, inl, inr, arith}
 use Rattle.std.proofs.lemmas.List.{length-append, take-append-le}
 use Rattle.std.proofs.lemmas.Nat.{from_le_bytes-to_le_bytes_4}
@@ -19,7 +19,7 @@ use Rattle.rb_source.proofs.Steps.{part_short, short_part}
 
 -- ---- one portion
 
--- two lists that begin with lists of one length
+-- two lists that begin with lists of the same length
 split : (a b x y : List ℕ) → length a ≡ length b → a ++ x ≡ b ++ y → (a ≡ b) × (x ≡ y)
 split a b x y same e = (
   sym (take-append_seam a x) ∙ ap (λ n. take n (a ++ x)) same ∙ ap (take (length b)) e ∙ take-append_seam b y,
@@ -29,7 +29,7 @@ split a b x y same e = (
 same_number : (m n : ℕ) → m < 2 ^ 32 → n < 2 ^ 32 → to_le_bytes w32 m ≡ to_le_bytes w32 n → m ≡ n
 same_number m n hm hn e = sym (from_le_bytes-to_le_bytes_4 m hm) ∙ ap (from_le_bytes w32) e ∙ from_le_bytes-to_le_bytes_4 n hn
 
--- numbers of four bytes in front
+-- numbers of four bytes at the front
 same_head : (m n : ℕ) (x y : List ℕ) → m < 2 ^ 32 → n < 2 ^ 32 → to_le_bytes w32 m ++ x ≡ to_le_bytes w32 n ++ y → (m ≡ n) × (x ≡ y)
 same_head m n x y hm hn e =
     let parts = split (to_le_bytes w32 m) (to_le_bytes w32 n) x y refl e in
@@ -60,7 +60,7 @@ same_line (z ∷ b) (w ∷ c) x y hb hc e =
 line_parts : (b x : List ℕ) → (b ++ line_feed ∷ []) ++ x ≡ b ++ line_feed ∷ x
 line_parts b x = append_assoc b (line_feed ∷ []) x
 
--- bytes begin with one portion at most
+-- bytes begin with at most one portion
 same_first : (framing : Framing) (len : ℕ) (p q : Portion) (x y : List ℕ) → IsPortion framing len p → IsPortion framing len q
     → portion_bytes framing p ++ x ≡ portion_bytes framing q ++ y → (p ≡ q) × (x ≡ y)
 same_first Frames len (Content b) (Content c) x y hp hq e = let s = same_frame b c x y hp hq e in (ap Content s.0, s.1)
@@ -75,7 +75,7 @@ same_first Lines len (Content b) (Content c) x y hp hq e =
 same_first Lines len (Content b) Flush x y hp hq e = absurd hq
 same_first Lines len Flush q x y hp hq e = absurd hp
 
--- ---- all of them
+-- ---- all portions
 
 -- the bytes begin with no portion
 abbrev pub HasNone : Framing → ℕ → List ℕ → Type 0
@@ -94,7 +94,7 @@ same_portions framing len (p ∷ ps) (q ∷ qs) r s hp hq nr ns e =
     let others : ps ≡ qs = rest.0 in
     (cc, rest.1)
 
--- ---- where a stream is over
+-- ---- the end of a stream
 
 -- a portion has bytes
 some_bytes : (framing : Framing) (len : ℕ) (p : Portion) → (framing ≡ Fixed → 0 < len) → IsPortion framing len p → 0 < length (portion_bytes framing p)
@@ -140,7 +140,7 @@ none_at_mark len r y mark Flush x h e =
 abbrev pub zeros : ContextCounts
 zeros = record { given = 0; skipped = 0; cut = 0 }
 
--- the portions of an input up to the end of the stream, the last line, and the bytes from there on
+-- the portions of an input up to the end of the stream, the last line, and the bytes after them
 pub record Whole (framing : Framing) (form : Form) (input : List ℕ) (contexts : List (List ℕ)) (counts : ContextCounts) : Type 0 where
   pub portions : List Portion
   pub last : List ℕ
@@ -163,7 +163,7 @@ frames≢lines e = cc
 fixed≢lines : Fixed ≢ Lines
 fixed≢lines e = cc
 
--- two such parts are one
+-- two such divisions are equal
 same_whole : (framing : Framing) (form : Form) (input : List ℕ) (contexts others : List (List ℕ)) (counts other_counts : ContextCounts)
     → Whole framing form input contexts counts → Whole framing form input others other_counts → (contexts ≡ others) × (counts ≡ other_counts)
 same_whole framing form input contexts others counts other_counts one other =
@@ -178,7 +178,7 @@ same_whole framing form input contexts others counts other_counts one other =
     same_last Fixed last other rest other_rest a b c d e = no_lines Fixed last fixed≢lines c ∙ sym (no_lines Fixed other fixed≢lines d)
     same_last Lines last other rest other_rest a b c d e = sym (a refl) ∙ e ∙ b refl
 
--- what a reader had is what was read and what it has still
+-- the reader's input is what was read followed by what it still has
 read_of : (a b : Option (List ℕ)) (input read : List ℕ) → a ≡ Some input → Consumes a b read → (left : List ℕ) × (b ≡ Some left) × (input ≡ read ++ left)
 read_of a None input read e h = let P : Option (List ℕ) → Type 0 = λ o. Consumes o None read in absurd (subst P e h)
 read_of a (Some left) input read e h = let P : Option (List ℕ) → Type 0 = λ o. Consumes o (Some left) read in (left, refl, subst P e h)
@@ -194,13 +194,13 @@ none_left framing len (b ∷ last) left some h e =
     let whole : (b ∷ last) ++ left ≡ b ∷ last = ap (λ l. (b ∷ last) ++ l) e ∙ append-nil (b ∷ last) in
     subst (λ f. HasNone f len ((b ∷ last) ++ left)) (sym is.0) (subst (HasNone Lines len) (sym whole) (none_in_line len (b ∷ last) is.1))
 
--- four bytes in front
+-- four bytes at the front
 front_of : (bytes head : List ℕ) → length head ≡ 4 → take 4 bytes ≡ head → bytes ≡ head ++ drop 4 bytes
 front_of bytes head four e = sym (take-append-drop 4 bytes) ∙ ap (λ h. h ++ drop 4 bytes) e
 
 module _ {R : Type 0} (remaining : R → Option (List ℕ)) (framing : Framing) (form : Form) (input : List ℕ) (contexts : List (List ℕ)) (ended : FramedInput R)
     (some : framing ≡ Fixed → 0 < form.len) where
-  -- what a new source gave from nothing read on
+  -- what a new source gave, from the start of the input
   gave_from : (reader : R) (source : FramedInput R) → remaining reader ≡ Some input → source.reader ≡ reader → source.counts ≡ zeros → ended.over ≡ true
       → GivesFrom remaining framing form source [] contexts ended → IsOver remaining ended → Whole framing form input contexts ended.counts
   gave_from reader source has same fresh over gives is_over =

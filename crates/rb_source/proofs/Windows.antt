@@ -6,7 +6,7 @@ use Rattle.std.proofs.lemmas.List.{drop-take, length-drop, length-take-le, take-
 use Rattle.std.proofs.lemmas.List.Edits.{take-paste}
 use Rattle.std.proofs.Math.Seq.{take-append-add, take-take}
 
--- the bytes from `at` to `end`, once they were moved to the front
+-- the bytes from `at` to `end`, after they were moved to the front
 pub moved_front : (room : List ℕ) (at end : ℕ) → at ≤ end → end ≤ length room → take (end - at) (copy_within room at end 0) ≡ drop at (take end room)
 moved_front room at end less within =
     let left : end - at ≡ 0 + (end - at) = omega arith in
@@ -18,7 +18,7 @@ moved_front room at end less within =
 regroup : (a b c d : List ℕ) → (a ++ (b ++ c)) ++ d ≡ a ++ (b ++ (c ++ d))
 regroup a b c d = simp append_assoc
 
--- bytes that were read behind the first k
+-- bytes that were read after the first k
 pub read_behind : (k n len : ℕ) (room read past more : List ℕ) → k ≤ length room → n ≤ length read → k + n ≤ len → take (k + n) (take len ((take k room ++ (read ++ past)) ++ more)) ≡ take k room ++ take n read
 read_behind k n len room read past more a b c =
     let front : length (take k room) ≡ k = length-take-le k room a in

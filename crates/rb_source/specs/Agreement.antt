@@ -14,7 +14,7 @@ pub record GivesAll {R : Type 0} (remaining : R → Option (List ℕ)) (framing 
   pub gave : Gives remaining source contexts ended
   pub over : ended.over ≡ true
 
--- two such sources, over readers of any two kinds, gave the same contexts in the same order, and counted alike
+-- two such sources, over readers of any two kinds, gave the same contexts in the same order, and have equal counts
 abbrev pub AgreeOnContexts : {A B : Type 0} → (A → Option (List ℕ)) → (B → Option (List ℕ)) → Type 0
 AgreeOnContexts {A} {B} remaining other_remaining =
     (framing : Framing) (form : Form) (input : List ℕ) (contexts other_contexts : List (List ℕ)) (ended : FramedInput A) (other_ended : FramedInput B)

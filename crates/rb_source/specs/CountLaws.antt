@@ -1,4 +1,4 @@
--- What is given of contexts that came, and what is counted.
+-- What is given of the contexts that arrived, and what is counted.
 use Rattle.std.proofs.Common.{◌≡◌, ℕ, ◌+◌, ◌-◌, ◌<◌, ◌≤◌, Bool, true, false, cond, eqb, leb, ltb, not, min, List, [], ◌∷◌, ◌++◌, length, take, replicate, map, refl, sym, ap, ◌∙◌, arith, zero-add}
 use Rattle.std.proofs.Math.Seq.{take-take}
 use Rattle.std.proofs.lemmas.Bool.Decides.{nat_tests}
@@ -24,7 +24,7 @@ same_le len n b = grind (arith, nat_tests)
 same_lt : (len n : ℕ) → len ≤ 65536 → ltb len (min n largest_u32) ≡ ltb len n
 same_lt len n b = grind (arith, nat_tests)
 
--- a length shows whether its context is given and cut, also as a u32
+-- the length of a context determines whether it is given and cut, also as a u32
 fits_known : (fit : Fit) (len n : ℕ) → len ≤ 65536 → fits fit len (min n largest_u32) ≡ fits fit len n
 fits_known Exact len n b = same_eq len n b
 fits_known Pad len n b = same_le len n b
@@ -39,11 +39,11 @@ bare_len : (b : Bool) (len : ℕ) → cond b (len + 4) len ≤ 65536 → len ≤
 bare_len true len h = omega arith
 bare_len false len h = h
 
--- the wanted length is at most 65,536
+-- the requested length is at most 65,536
 pub len_small : (form : Form) → IsForm form → form.len ≤ 65536
 len_small form f = bare_len form.with_length form.len f
 
--- the front shows the context
+-- the front determines the context
 formed_known : (form : Form) (came front : List ℕ) (total : ℕ) → IsKnownBy form.len came front total → formed form front total ≡ context_of form came
 formed_known form came front total k =
     let n = min total form.len in
@@ -65,7 +65,7 @@ given_is form came total lawful e = ap (fits form.fit form.len) e ∙ fits_known
 cut_is : (form : Form) (came : List ℕ) (total : ℕ) → IsForm form → total ≡ min (length came) largest_u32 → is_cut form.fit form.len total ≡ is_cut form.fit form.len (length came)
 cut_is form came total lawful e = ap (is_cut form.fit form.len) e ∙ cut_known form.fit form.len (length came) (len_small form lawful)
 
--- what is known of a context shows what is given, and what is counted
+-- what is known about a context determines what is given, and what is counted
 pub given_known : (form : Form) (came front : List ℕ) (total : ℕ) → IsForm form → IsKnownBy form.len came front total → given_by form front total ≡ contexts_of form (came ∷ [])
 given_known form came front total lawful k =
     one_given form came (formed form front total) (fits form.fit form.len total) (given_is form came total lawful k.total_is) (formed_known form came front total k)

@@ -1,4 +1,4 @@
--- Contexts of one form: those of another length are skipped, filled up with zeros or cut (own).
+-- Contexts of one form: those of another length are skipped, padded with zeros or cut (own).
 use Rattle.std.specs.Prelude.{ℕ, ◌≡◌, ◌+◌, ◌-◌, ◌≤◌, ◌^◌, ◌==◌, nat_le, nat_lt, min, Bool, true, false, not, if◌then◌else◌, List, [], ◌∷◌, ◌++◌, length, take, replicate, map, filter, count_by}
 use Rattle.std.specs.Int.{w32, to_le_bytes}
 use Rattle.rb_source.specs.declared.form.Fit.{Fit}
@@ -6,7 +6,7 @@ use Rattle.rb_source.specs.declared.form.Fit.TheVariants.{Exact, Pad, Cut}
 use Rattle.rb_source.specs.declared.form.Form.{Form}
 use Rattle.rb_source.specs.declared.counts.ContextCounts.{ContextCounts}
 
--- the length of contexts of this form: with the true length in front there are four bytes more
+-- the length of contexts of this form: with the true length in front there are four more bytes
 abbrev pub form_len : Form → ℕ
 form_len form = if form.with_length then form.len + 4 else form.len
 
@@ -14,13 +14,13 @@ form_len form = if form.with_length then form.len + 4 else form.len
 abbrev pub IsForm : Form → Type 0
 IsForm form = form_len form ≤ 65536
 
--- a context that came with `total` bytes is given where `len` are wanted
+-- whether a context that arrived with `total` bytes is given, if `len` are requested
 abbrev pub fits : Fit → ℕ → ℕ → Bool
 fits Exact len total = total == len
 fits Pad len total = nat_le total len
 fits Cut len total = true
 
--- it is cut
+-- whether it is cut
 abbrev pub is_cut : Fit → ℕ → ℕ → Bool
 is_cut Exact len total = false
 is_cut Pad len total = false
@@ -30,27 +30,28 @@ is_cut Cut len total = nat_lt len total
 abbrev pub largest_u32 : ℕ
 largest_u32 = 4294967295
 
--- the context of which `total` bytes came and these are the front: the true length if it is wanted, the bytes up to the wanted length, and zeros
+-- the context of which `total` bytes arrived, beginning with these: the true length if it is requested, the bytes up to
+-- the requested length, and zeros
 abbrev pub formed : Form → List ℕ → ℕ → List ℕ
 formed form front total =
     (if form.with_length then to_le_bytes w32 total else []) ++ (take (min total form.len) front ++ replicate (form.len - min total form.len) 0)
 
--- the context made of the bytes that came. A length of 2^32 and more shows as 2^32 - 1
+-- the context made of the bytes that arrived. A length of 2^32 or more is shown as 2^32 - 1
 abbrev pub context_of : Form → List ℕ → List ℕ
 context_of form came = formed form came (min (length came) largest_u32)
 
 abbrev pub is_given : Form → List ℕ → Bool
 is_given form came = fits form.fit form.len (length came)
 
--- what is given of all that came, in order
+-- what is given of all that arrived, in order
 abbrev pub contexts_of : Form → List (List ℕ) → List (List ℕ)
 contexts_of form came = map (context_of form) (filter (is_given form) came)
 
--- a count in 64 bits stays at its largest value
+-- a 64-bit count, which saturates at its largest value
 abbrev pub saturated : ℕ → ℕ
 saturated n = min n 18446744073709551615
 
--- the counts once this came too: what was given, what was skipped, and what was given and cut
+-- the counts after these contexts arrived: what was given, what was skipped, and what was given and cut
 abbrev pub counts_after : Form → ContextCounts → List (List ℕ) → ContextCounts
 counts_after form counts came = record {
   given = saturated (counts.given + count_by (is_given form) came);

@@ -1,11 +1,12 @@
--- How contexts stand in a stream of bytes: as frames, one after the other without anything between, or as lines (own).
+-- How contexts are framed in a stream of bytes: as frames, one after the other with nothing between them, or as lines
+-- (own).
 use Rattle.std.specs.Prelude.{ℕ, ◌≡◌, ◌≢◌, ◌+◌, ◌<◌, ◌⊎◌, List, [], ◌∷◌, ◌++◌, length, take}
 use Rattle.std.specs.List.{flat_map}
 use Rattle.std.specs.Int.{w32, to_le_bytes}
 use Rattle.rb_source.specs.declared.framing.Framing.{Framing}
 use Rattle.rb_source.specs.declared.framing.Framing.TheVariants.{Frames, Fixed, Lines}
 
--- what stands in a stream: the bytes of one context, or the wish that what came before is given at once
+-- a portion of a stream: the bytes of one context, or the request that the contexts before it are given at once
 pub data Portion : Type 0 where
   Content : (bytes : List ℕ) → Portion
   Flush : Portion
@@ -16,7 +17,7 @@ contents [] = []
 contents (Content bytes ∷ portions) = bytes ∷ contents portions
 contents (Flush ∷ portions) = contents portions
 
--- the lengths that stand for no frame
+-- the lengths that do not belong to a frame
 abbrev pub flush_length : ℕ
 flush_length = 4294967294
 
@@ -31,7 +32,8 @@ abbrev pub HasNoLineFeed : List ℕ → Type 0
 HasNoLineFeed [] = Unit {0}
 HasNoLineFeed (b ∷ bs) = (b ≢ line_feed) × HasNoLineFeed bs
 
--- what may stand in a stream: a frame of less than 2^32 - 2 bytes; contexts of just the wanted length; a line without a line feed inside
+-- the possible portions: a frame of less than 2^32 - 2 bytes; a context of exactly the requested length; a line without
+-- a line feed inside
 abbrev pub IsPortion : Framing → ℕ → Portion → Type 0
 IsPortion Frames len (Content bytes) = length bytes < flush_length
 IsPortion Fixed len (Content bytes) = length bytes ≡ len
@@ -44,7 +46,7 @@ abbrev pub ArePortions : Framing → ℕ → List Portion → Type 0
 ArePortions framing len [] = Unit {0}
 ArePortions framing len (p ∷ ps) = IsPortion framing len p × ArePortions framing len ps
 
--- its bytes: a frame has its length in front, as a little-endian u32; a line has a line feed behind it
+-- its bytes: a frame has its length in front, as a little-endian u32; a line is followed by a line feed
 abbrev pub portion_bytes : Framing → Portion → List ℕ
 portion_bytes Frames (Content bytes) = to_le_bytes w32 (length bytes) ++ bytes
 portion_bytes Fixed (Content bytes) = bytes
@@ -57,7 +59,7 @@ portion_bytes Lines Flush = []
 abbrev pub text_of : Framing → List Portion → List ℕ
 text_of framing portions = flat_map (portion_bytes framing) portions
 
--- the bytes begin with no whole portion, and more bytes may make one of them
+-- the bytes begin with no whole portion, and more bytes may turn them into one
 abbrev pub IsPartial : Framing → ℕ → List ℕ → Type 0
 IsPartial Frames len bytes =
     (length bytes < 4) ⊎ ((n : ℕ) × (n < flush_length) × (take 4 bytes ≡ to_le_bytes w32 n) × (length bytes < 4 + n))

@@ -1,12 +1,13 @@
--- A piece: whole contexts of one length, in the order in which they came (own).
+-- A piece: whole contexts of one length, in the order of their arrival (own).
 use Rattle.std.specs.Prelude.{ℕ, ◌/◌, max, List, []}
 
--- what a piece holds: its contexts, and the length of each
+-- the contents of a piece: its contexts, and the length of each
 pub record PieceContents : Type 0 where
   pub contexts : List (List ℕ)
   pub ctx_len : ℕ
 
--- how many contexts of this length a piece holds at most: as many as 64 KiB do, and as many empty ones as there are bytes
+-- the maximal number of contexts of this length in a piece: as many as fit into 64 KiB, and as many empty ones as there
+-- are bytes
 abbrev pub room_for : ℕ → ℕ
 room_for ctx_len = 65536 / max 1 ctx_len
 

@@ -79,7 +79,7 @@ both_from remaining framing form a b c part xs ys open_yet one two =
       form_same = two.form_same;
     }
 
--- the second step, as from the first one's source
+-- the second step, as from the first step's source
 pub next_from : {R : Type 0} (remaining : R → Option (List ℕ)) (framing : Framing) (form : Form) (b c : FramedInput R) (part : List ℕ) (ys : List (List ℕ)) → b.framing ≡ framing → b.form ≡ form
     → GivesFrom remaining b.framing b.form b part ys c → GivesFrom remaining framing form b part ys c
 next_from remaining framing form b c part ys e f two = subst (λ g. GivesFrom remaining g form b part ys c) e (subst (λ g. GivesFrom remaining b.framing g b part ys c) f two)

@@ -1,4 +1,4 @@
-//! What is done with one context that came.
+//! Giving or skipping one context.
 
 ghost use Rattle.std.specs.Prelude.{◌≡◌, ◌<◌, ◌≤◌, ◌++◌, length, min};
 ghost use Rattle.rb_source.specs.Form.{form_len, IsForm};
@@ -9,7 +9,7 @@ use crate::counts::ContextCounts;
 use crate::form::Form;
 use crate::piece::Piece;
 
-// Gives or skips a context, of which `total` bytes came and `front` holds the first, and counts it.
+// Gives or skips a context of `total` bytes that begins with `front`, and counts it.
 pub(crate) fn emit(
     form: &Form,
     front: &[u8],

@@ -1,16 +1,16 @@
-//! How contexts of one length are made of what comes.
+//! How contexts of one length are made from the input.
 
 ghost use Rattle.std.specs.Prelude.{◌≡◌, ◌≤◌, ◌<◌, ◌+◌, ◌-◌, ◌++◌, ◌↔◌, IsTrue, length, min, replicate, take};
 ghost use Rattle.rb_source.specs.Form.{form_len, formed, fits, is_cut, IsForm};
 
-/// What is done with contexts of another length than the wanted one.
+/// What is done with contexts that don't have the requested length.
 #[derive(Clone, Copy, Debug, PartialEq, Eq)]
 pub enum Fit {
-    /// Contexts of another length are skipped and counted.
+    /// Contexts with another length are skipped and counted.
     Exact,
-    /// Shorter contexts are filled up with zeros. Longer ones are skipped and counted.
+    /// Shorter contexts are padded with zeros. Longer ones are skipped and counted.
     Pad,
-    /// Shorter contexts are filled up with zeros. Longer ones are cut to the wanted length and counted.
+    /// Shorter contexts are padded with zeros. Longer ones are cut to the requested length and counted.
     Cut,
 }
 
@@ -40,16 +40,17 @@ impl Fit {
 /// The form of the contexts that programs are given.
 #[derive(Clone, Copy, Debug, PartialEq, Eq)]
 pub struct Form {
-    /// The wanted length, in bytes.
+    /// The requested length, in bytes.
     pub len: u32,
     /// What is done with contexts of another length.
     pub fit: Fit,
-    /// Whether the length that a context came with is put in front of it, as a little-endian `u32`.
+    /// Whether the original length of a context is put in front of it, as a little-endian `u32`.
     pub with_length: bool,
 }
 
 impl Form {
-    /// Returns the length of the contexts that programs are given: the wanted length, and 4 more if the length is put in front.
+    /// Returns the length of the contexts that programs are given: the requested length, plus 4 if the original length
+    /// is put in front.
     pub fn ctx_len(&self) -> u32
         requires lawful { IsForm self.now }
         ensures value { result ≡ form_len self.now }
@@ -71,7 +72,7 @@ impl Form {
     }
 }
 
-// Writes the front of a context's bytes, and zeros behind it.
+// Writes the front of a context's bytes, followed by zeros.
 fn write_body(body: &mut [u8], front: &[u8])
     requires { length front.now ≤ length body.old }
     ensures { body.new ≡ front.now ++ replicate (length body.old - length front.now) 0 }
@@ -81,7 +82,7 @@ fn write_body(body: &mut [u8], front: &[u8])
     body[n..].fill(0);
 }
 
-// Writes the context of this form, given the front of the bytes that came and how many came.
+// Writes the context of this form, given the front of the bytes that arrived and their total number.
 pub(crate) fn write_formed(slot: &mut [u8], form: &Form, front: &[u8], total: u32)
     requires size { length slot.old ≡ form_len form.now }
     requires front { min total form.now.len ≤ length front.now }

@@ -27,17 +27,19 @@ use std::alloc::{AllocError, Global};
 use std::io::Read;
 use std::marker::Model;
 
-/// Gives the contexts that stand in the bytes of a reader. However the reads cut the bytes, the contexts are the same.
+/// A source that parses contexts from the bytes of a reader. The contexts do not depend on how the reads cut the bytes.
 ///
-/// A context longer than those that fit is skipped or cut without being held in memory: the source holds at most 128 KiB of what
-/// was read, and the first bytes of one such context. After a fault nothing is lost, and the next call reads on.
+/// A context that does not fit into the window of 128 KiB is skipped or cut without being held in memory: the source
+/// holds at most a window of read bytes, and the first bytes of one such context. A fault loses nothing: the next call
+/// continues to read.
 #[derive(Drop)]
 pub struct FramedReader<R> {
     reader: R,
     framing: Framing,
     form: Form,
     window: Window,
-    // The context that does not fit into the window, if there is one. The window then holds what came behind what is known of it.
+    // The context that does not fit into the window, if there is one. The window then holds the bytes after the part
+    // that `Long` describes.
     long: Option<Long>,
     // The first bytes of that context, as many as are given.
     kept: Vec<u8>,
@@ -60,7 +62,8 @@ impl<R> Model for FramedReader<R> {
 }
 
 impl<R: Read> FramedReader<R> {
-    /// Returns a source over the reader, of which nothing was read yet, or `AllocError` if there is no memory for it.
+    /// Returns a source over the reader, from which nothing was read yet, or `AllocError` if its memory can't be
+    /// allocated.
     pub fn new(
         alloc: Global,
         reader: R,
@@ -87,21 +90,21 @@ impl<R: Read> FramedReader<R> {
         })
     }
 
-    /// Returns how many contexts came so far.
+    /// Returns the counts of the contexts so far.
     pub fn counts(&self) -> ContextCounts
         ensures value { result ≡ self.now.counts }
     {
         self.counts
     }
 
-    /// Returns the reader. What was read and not given yet is lost.
+    /// Returns the reader. Bytes that were read but not given yet are lost.
     pub fn into_reader(self) -> R
         ensures value { result ≡ self.reader }
     {
         self.reader
     }
 
-    // Takes the portion at the front of the window. Returns whether to go on.
+    // Takes the portion at the front of the window. Returns whether to continue.
     fn take_front(&mut self, piece: &mut Piece) -> bool
         requires open { self.old.over ≡ false }
         requires short { self.old.long ≡ None }
@@ -131,7 +134,8 @@ impl<R: Read> FramedReader<R> {
         }
     }
 
-    // Takes the portions at the front of the window until the piece is full, no whole one is left, or what came is asked for.
+    // Takes the portions at the front of the window until the piece is full, no whole portion is left, or a flush is
+    // requested.
     fn take_fronts(&mut self, piece: &mut Piece)
         requires open { self.old.over ≡ false }
         requires short { self.old.long ≡ None }
@@ -145,7 +149,7 @@ impl<R: Read> FramedReader<R> {
         'portions: while self.take_front(piece) {}
     }
 
-    // Takes what stands behind a long context, if the piece has room.
+    // Takes the portions after a long context, if the piece has room.
     fn take_behind(&mut self, piece: &mut Piece)
         requires open { self.old.over ≡ false }
         requires short { self.old.long ≡ None }
@@ -160,7 +164,7 @@ impl<R: Read> FramedReader<R> {
         self.take_fronts(piece);
     }
 
-    // Takes what was read, as far as it goes and the piece has room.
+    // Takes the portions that were read, as far as the piece has room.
     fn take(&mut self, piece: &mut Piece)
         requires open { self.old.over ≡ false }
         requires empty { piece.old.contexts ≡ [] }
@@ -184,7 +188,7 @@ impl<R: Read> FramedReader<R> {
         }
     }
 
-    // Makes room in the window. It is full only if a context does not fit in.
+    // Makes room in the window. The window is full only if a context does not fit into it.
     fn make_room(&mut self)
         requires open { self.old.over ≡ false }
         requires partial { IsPartialSource self.old }
@@ -211,7 +215,7 @@ impl<R: Read> FramedReader<R> {
         self.window.read_from(&mut self.reader)
     }
 
-    // Fills the piece, if the stream is not over.
+    // Fills the piece, unless the stream is over.
     fn fill_open(&mut self, piece: &mut Piece) -> Result<Filled, SourceFault>
         requires open { self.old.over ≡ false }
         requires empty { piece.old.contexts ≡ [] }

@@ -1,4 +1,4 @@
-//! What the bytes of a stream begin with.
+//! Parsing the front of the bytes of a stream.
 
 ghost use Rattle.std.specs.Prelude.{◌≡◌, ◌≤◌, ◌<◌, length, take};
 ghost use Rattle.std.specs.Int.{w32, to_le_bytes};
@@ -11,10 +11,10 @@ use memchr::memchr;
 /// The length that ends a stream of frames.
 pub(crate) const END: u32 = 0xffff_ffff;
 
-/// The length that asks for what came before it.
+/// The length that requests a flush.
 pub(crate) const FLUSH: u32 = 0xffff_fffe;
 
-/// Where the first context stands in the bytes: its first byte, its length, and the length of all that it takes up.
+/// The place of the first context in the bytes: its first byte, its length, and the length of the whole portion.
 #[derive(Clone, Copy)]
 pub(crate) struct ContextPlace {
     pub start: usize,
@@ -27,7 +27,7 @@ pub(crate) struct ContextPlace {
 pub(crate) enum Opening {
     /// No whole context yet.
     Partial,
-    /// The wish that what came before is given at once.
+    /// A request to give the contexts before it at once.
     Flush,
     /// The end of the stream.
     End,
@@ -35,7 +35,7 @@ pub(crate) enum Opening {
     Whole(ContextPlace),
 }
 
-/// Returns the length in front of a frame.
+/// Returns the length at the front of a frame.
 pub(crate) fn frame_length(bytes: &[u8]) -> u32
     requires { 4 ≤ length bytes.now }
     ensures value { take 4 bytes.now ≡ to_le_bytes w32 result }
@@ -82,7 +82,7 @@ fn look_for_fixed(len: u32, bytes: &[u8]) -> Opening
     })
 }
 
-/// Returns the place of the first line feed.
+/// Returns the index of the first line feed.
 pub(crate) fn find_line_feed(bytes: &[u8]) -> Option<usize>
     ensures finds { FindsLineFeed bytes.now result }
 {

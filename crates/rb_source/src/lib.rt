@@ -1,4 +1,4 @@
-//! Contexts for programs, as they come from outside: pieces that hold them, and sources that fill pieces, from a list or from any reader.
+//! Contexts for programs: pieces, which hold them, and sources, which fill pieces from a list or from any reader.
 #![tactic(auto)]
 
 mod agreement;

@@ -7,7 +7,7 @@ use crate::piece::Piece;
 use crate::source::{Filled, Source, SourceFault};
 use std::marker::Model;
 
-/// Gives the contexts of a slice, in order: a source for tests, and for contexts that are in memory.
+/// A source that gives the contexts of a slice, in order: for tests, and for contexts in memory.
 #[derive(Drop)]
 pub struct ListSource<'a> {
     rest: &'a [Vec<u8>],
@@ -39,7 +39,7 @@ impl<'a> ListSource<'a> {
     }
 }
 
-// Appends contexts to the piece until it is full or none is left, and returns how many there were.
+// Appends contexts to the piece until it is full or none is left, and returns their number.
 fn append(piece: &mut Piece, contexts: &[Vec<u8>]) -> usize
     requires size { All (λ v. length v.items ≡ piece.old.ctx_len) contexts.now }
     ensures bound { result ≤ length contexts.now }

@@ -11,13 +11,14 @@ use std::marker::Model;
 /// The size of a piece in bytes, and so the longest context.
 pub const PIECE_SIZE: u32 = 65_536;
 
-/// A buffer of up to 64 KiB that holds whole contexts, all of one length, in the order in which they came.
+/// A buffer of up to 64 KiB that holds whole contexts, all of one length, in the order of their arrival.
 ///
-/// `new` allocates all of its memory, and no other call allocates. `clear` makes it ready for further contexts. A piece holds as many
-/// contexts as fit into 64 KiB, and at most 65,536 empty ones.
+/// `new` allocates all of its memory, and no other call allocates. `clear` makes it ready for further contexts. A piece
+/// holds as many contexts as fit into 64 KiB, and at most 65,536 empty ones.
 #[derive(Drop)]
 pub struct Piece {
-    // Room for `room` contexts. The first `count` of them are there, one after the other; the bytes after them mean nothing.
+    // Room for `room` contexts. The first `count` contexts are in use, one after the other; the bytes after them are
+    // unspecified.
     bytes: Vec<u8>,
     ctx_len: usize,
     room: usize,
@@ -61,7 +62,7 @@ fn write_formed_at(
 }
 
 impl Piece {
-    /// Returns an empty piece for contexts of `ctx_len` bytes, or `AllocError` if there is no memory for it.
+    /// Returns an empty piece for contexts of `ctx_len` bytes, or `AllocError` if its memory can't be allocated.
     pub fn new(alloc: Global, ctx_len: u32) -> Result<Piece, AllocError>
         requires { ctx_len ≤ 65536 }
         ensures empty { IfOk result (λ p. p ≡ empty_piece ctx_len) }
@@ -76,7 +77,7 @@ impl Piece {
         })
     }
 
-    /// Removes all contexts. In constant time.
+    /// Removes all contexts. Takes constant time.
     pub fn clear(&mut self)
         ensures empty { self.new ≡ empty_piece self.old.ctx_len }
     {
@@ -93,7 +94,7 @@ impl Piece {
     }
 
     #[inline]
-    /// Returns how many contexts the piece holds.
+    /// Returns the number of contexts in the piece.
     pub fn len(&self) -> usize
         ensures value { result ≡ length self.now.contexts }
         ensures bound { result ≤ room_for self.now.ctx_len }
@@ -110,7 +111,8 @@ impl Piece {
     }
 
     #[inline]
-    /// Returns how many contexts the piece can hold: 65,536 divided by their length, or 65,536 if they are empty.
+    /// Returns the maximal number of contexts in the piece: 65,536 divided by their length, or 65,536 if they are
+    /// empty.
     pub fn room(&self) -> usize
         ensures value { result ≡ room_for self.now.ctx_len }
     {
@@ -118,7 +120,7 @@ impl Piece {
     }
 
     #[inline]
-    /// Returns whether there is no room for another context. An empty piece has room for one.
+    /// Returns whether there is no room for another context. An empty piece always has room for one.
     pub fn is_full(&self) -> bool
         ensures value { result ≡ nat_le (room_for self.now.ctx_len) (length self.now.contexts) }
         ensures some { 0 < room_for self.now.ctx_len }
@@ -127,7 +129,7 @@ impl Piece {
     }
 
     #[inline]
-    /// Returns context `index`, counted from 0 in the order in which they came.
+    /// Returns context `index`, counted from 0 in the order of arrival.
     pub fn get(&self, index: usize) -> &[u8]
         requires { index < length self.now.contexts }
         ensures value { result.now ≡ slice_index_or self.now.contexts index [] }
@@ -149,7 +151,7 @@ impl Piece {
         self.count += 1;
     }
 
-    // Appends the context of this form, given the front of the bytes that came and how many came.
+    // Appends the context of this form, given the front of the bytes that arrived and their total number.
     pub(crate) fn push_formed(&mut self, form: &Form, front: &[u8], total: u32)
         requires size { self.old.ctx_len ≡ form_len form.now }
         requires room { length self.old.contexts < room_for self.old.ctx_len }

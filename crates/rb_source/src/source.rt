@@ -1,4 +1,4 @@
-//! Where contexts come from.
+//! Sources of contexts.
 
 ghost use Rattle.std.specs.Prelude.{◌≡◌, ◌≤◌, ◌++◌, ℕ, List, [], IfErr};
 ghost use Rattle.rb_source.specs.Given.{HasGiven, OnEnd};
@@ -8,38 +8,39 @@ ghost use Rattle.rb_source.specs.declared.source.SourceFault.{SourceFault};
 use crate::piece::Piece;
 use thiserror::Error;
 
-/// What a call of `Source::fill` found.
+/// The result of a call of `Source::fill`.
 #[derive(Clone, Copy, Debug, PartialEq, Eq)]
 pub enum Filled {
     /// One or more contexts are in the piece, and more may come.
     More,
-    /// The input has ended. The piece is empty, as all contexts were given before.
+    /// The input has ended. The piece is empty, because all contexts were given before.
     End,
 }
 
-/// Why a source cannot go on. All contexts before the fault were given.
+/// Why a source can't continue. All contexts before the fault were given.
 #[derive(Clone, Copy, Debug, Error, PartialEq, Eq)]
 pub enum SourceFault {
-    /// The input cannot be read.
+    /// The input can't be read.
     #[error("the input cannot be read")]
     Read,
-    /// The input ends inside a context. The number counts the contexts before it, given and skipped; it saturates at `u64::MAX`.
+    /// The input ends inside a context. The number counts the contexts before it, given and skipped; it saturates at
+    /// `u64::MAX`.
     #[error("the input ends inside context {0}")]
     EndsInside(u64),
 }
 
-/// Gives contexts of one length, in order, a piece at a time.
+/// A source gives contexts of one length, in order, a piece at a time.
 pub trait Source {
     /// The length of each context.
     ghost ctx_len_of: { Self → ℕ };
 
-    /// The source gives these contexts, in this order, and goes from the one value to the other.
+    /// The source gives these contexts, in this order, which leads from the old value to the new one.
     ghost gives: { Self → List (List ℕ) → Self → Type 0 };
 
     /// The input is over: all of its contexts were given.
     ghost is_over: { Self → Type 0 };
 
-    /// What a fault says of the source and of its input.
+    /// The meaning of a fault for the source and its input.
     ghost fails: { Self → SourceFault → Type 0 };
 
     /// Returns the length of each context, in bytes: at most 65,536.
@@ -49,8 +50,9 @@ pub trait Source {
 
     /// Fills an empty piece with the next contexts.
     ///
-    /// It waits for the first context. What one read of the input brought is returned at once, so a slow input adds no delay. At
-    /// `More` the piece holds one or more contexts. At `End` and at a fault it is empty, as all contexts before were given by earlier calls.
+    /// It waits for the first context. The contexts of one read of the input are returned at once, so a slow input adds
+    /// no delay. At `More`, the piece holds one or more contexts. At `End` and at a fault it is empty, because all
+    /// contexts before were given by earlier calls.
     fn fill(&mut self, piece: &mut Piece) -> Result<Filled, SourceFault>
         requires empty { piece.old ≡ empty_piece (ctx_len_of self.old) }
         ensures gave { gives self.old piece.new.contexts self.new }
@@ -60,9 +62,9 @@ pub trait Source {
         ensures over { OnEnd result (is_over self.new) }
         ensures fault { IfErr result (fails self.new) };
 
-    /// A source that is left alone gives nothing.
+    /// A source that is not called gives nothing.
     ghost gives_nothing: { (s : Self) → gives s [] s };
 
-    /// What is given first and what is given next, in this order, is what is given in all.
+    /// The contexts that are given first, followed by those that are given next, are those given in all.
     ghost gives_both: { (a b c : Self) (xs ys : List (List ℕ)) → gives a xs b → gives b ys c → gives a (xs ++ ys) c };
 }

@@ -1,4 +1,4 @@
-//! Pieces and lists with ample memory.
+//! Tests of pieces and lists, with ample memory.
 
 mod framed_streams;
 

@@ -1,4 +1,4 @@
-//! Bytes that were read and not used yet.
+//! The window of bytes that were read and not used yet.
 
 ghost use Rattle.std.specs.Prelude.{◌≡◌, ◌≤◌, ◌<◌, ◌-◌, ◌++◌, List, ℕ, [], IfOk, length, take, drop};
 ghost use Rattle.std.specs.Io.KnownBytes.{Consumes, IsAtEnd};
@@ -8,10 +8,10 @@ use std::alloc::{AllocError, Global};
 use std::io::{ErrorKind, Read};
 use std::marker::Model;
 
-/// The size of a window in bytes. Each context that can be given fits in, with what stands around it.
+/// The size of a window in bytes. Each context that can be given fits into it, together with its framing.
 pub(crate) const WINDOW_SIZE: usize = 131_072;
 
-/// What a read brought.
+/// The result of a read.
 #[derive(Clone, Copy, PartialEq, Eq)]
 pub(crate) enum ReadOutcome {
     /// Bytes, or none because the read was interrupted.
@@ -22,7 +22,7 @@ pub(crate) enum ReadOutcome {
     Fault,
 }
 
-/// Bytes that were read and not used yet. Contracts see the list of them.
+/// The bytes that were read and not used yet. Contracts see them as a list.
 #[derive(Drop)]
 pub(crate) struct Window {
     // The bytes are those from `at` to `end`.
@@ -88,7 +88,7 @@ impl Window {
         self.end = 0;
     }
 
-    /// Reads once, and appends what came. It waits as the reader does.
+    /// Reads once, and appends the bytes. It waits as the reader does.
     pub(crate) fn read_from<R: Read>(&mut self, reader: &mut R) -> ReadOutcome
         requires room { length self.old < 131072 }
         ensures came { (bytes : List ℕ) × Consumes (R.remaining reader.old) (R.remaining reader.new) bytes × (self.new ≡ self.old ++ bytes) }

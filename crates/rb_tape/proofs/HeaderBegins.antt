@@ -10,7 +10,7 @@ use Rattle.rb_tape.specs.TapeFront.{StartsWithHeader}
 abbrev bit : Bool → ℕ
 bit b = cond b 1 0
 
--- what a length word says: the length, and both bits as numbers
+-- the contents of a length word: the length, and both bits as numbers
 record WordSays (word len : ℕ) (discard busy : Bool) : Type 0 where
   below : word < 2 ^ 32
   len_is : len ≡ word % 2 ^ 30
@@ -32,7 +32,7 @@ same_bit false false e = refl
 same_parts : (l m p q : ℕ) (b c d e : Bool) → l ≡ m → b ≡ c → d ≡ e → p ≡ q → ◌≡◌ {A = Header} (record { len = l; busy = b; discard = d; page = p }) (record { len = m; busy = c; discard = e; page = q })
 same_parts l m p q b c d e hl hb hd hp = cc
 
--- bytes begin with one header
+-- bytes begin with at most one header
 pub same_begin : (bytes : List ℕ) (h k : Header) (b c : List ℕ) → StartsWithHeader bytes h b → StartsWithHeader bytes k c → (h ≡ k) × (b ≡ c)
 same_begin bytes h k b c x y =
     let of_h = word_says h.len h.discard h.busy x.fields.len in

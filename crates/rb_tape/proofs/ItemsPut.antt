@@ -1,4 +1,4 @@
--- The items that went out so far.
+-- The items that were written so far.
 use Rattle.std.proofs.Common.{◌≡◌, ℕ, ◌+◌, List, [], ◌∷◌, ◌++◌, take, refl, sym, ap, ◌∙◌, subst, append_assoc, append-nil, arith}
 use Rattle.std.specs.Prelude.{Option, None, Bool, true, false, not, Result, Ok, Err, is_err, OnOk, OnErr, if◌then◌else◌}
 use Rattle.std.proofs.lemmas.Bool.{true≢false}
@@ -40,7 +40,7 @@ end_of-push start items item =
     let none = end_of-nil (end_of start items + item_span item) in
     omega arith
 
--- ---- what one call answers
+-- ---- the result of one call
 
 pub on-ok : {T E : Type 0} (r : Result T E) (P : Type 0) (failed : Bool) → OnOk r P → failed ≡ is_err r → failed ≡ false → P
 on-ok (Ok x) P failed h e f = h
@@ -56,10 +56,10 @@ moved-on position before after ok failed is e f = is ∙ ap (λ b. if b then aft
 pub stayed : (position before after : ℕ) (ok failed : Bool) → position ≡ (if ok then after else before) → ok ≡ not failed → failed ≡ true → position ≡ before
 stayed position before after ok failed is e t = is ∙ ap (λ b. if b then after else before) (e ∙ ap not t)
 
--- ---- what went out, and what is left
+-- ---- the items that were written, and those that are left
 
 module _ (W : Type 0) (contents : W → Option (List ℕ)) (old : TapeOutput W) (items : List Taken) where
-  -- the items before those that are left went out, and those that are left stand on the tape
+  -- the items before those that are left were written, and those that are left may follow on the tape
   pub record PutSoFar (now : TapeOutput W) (left : List Taken) : Type 0 where
     pub whole : List Taken
     pub begins : BeginsItems contents old (tape_items whole) now
@@ -84,7 +84,7 @@ module _ (W : Type 0) (contents : W → Option (List ℕ)) (old : TapeOutput W) 
     bytes = Appends-nil (contents old.writer);
   }
 
-  -- the next item, and those behind it, stand on the tape
+  -- the next item and those after it may follow on the tape
   pub next-stands : (now : TapeOutput W) (left rest : List Taken) (i : given.Item) → PutSoFar now left → left ≡ item_taken i ∷ rest → AreItemsFrom old.size now.position (item_of i ∷ tape_items rest)
   next-stands now left rest i so_far is = subst (AreItemsFrom old.size now.position) (ap tape_items is ∙ tape_items-cons i rest) so_far.stand
 
@@ -119,7 +119,7 @@ module _ (W : Type 0) (contents : W → Option (List ℕ)) (old : TapeOutput W) 
     bytes = Appends-trans (contents old.writer) (contents now.writer) (contents new.writer) _ _ so_far.bytes (subst (λ s. Appends (contents now.writer) (contents new.writer) (take new.sent (item_bytes s (item_of i)))) so_far.size_same went);
   }
 
-  -- where the next item stays unfinished it stands still, and so do those behind it
+  -- if the next item is unfinished, its position does not change, and it and the items after it still may follow
   pub next-stays : (now new : TapeOutput W) (left rest : List Taken) (i : given.Item) → PutSoFar now left → left ≡ item_taken i ∷ rest → new.size ≡ now.size → new.position ≡ now.position →
       IsItemAt new.size new.position (item_of i) × AreItemsFrom new.size (new.position + item_span (item_of i)) (tape_items rest)
   next-stays now new left rest i so_far is size stays =
@@ -129,7 +129,7 @@ module _ (W : Type 0) (contents : W → Option (List ℕ)) (old : TapeOutput W) 
         subst (λ n. AreItemsFrom n (new.position + item_span (item_of i)) (tape_items rest)) (sym same) (subst (λ n. AreItemsFrom old.size (n + item_span (item_of i)) (tape_items rest)) (sym stays) stand.1),
       )
 
-  -- where none is left all went out
+  -- if none is left, all were written
   pub all-whole : (now : TapeOutput W) (left : List Taken) (so_far : PutSoFar now left) → left ≡ [] → so_far.whole ≡ items
   all-whole now left so_far none = sym (so_far.items_are ∙ ap (λ x. so_far.whole ++ x) none ∙ append-nil so_far.whole)
 
@@ -151,7 +151,7 @@ module _ (W : Type 0) (contents : W → Option (List ℕ)) (old : TapeOutput W) 
     },
   )
 
-  -- it came to the end
+  -- it reached the end
   pub puts-whole : (now : TapeOutput W) (left rest : List Taken) → PutSoFar now left → left ≡ [] → rest ≡ [] → old.unfinished ≡ None → now.unfinished ≡ None → PutsAll contents old (tape_items items) (tape_items rest) true now
   puts-whole now left rest so_far none no_rest before after = (
     tape_items so_far.whole,

@@ -1,4 +1,4 @@
--- What was read of an input.
+-- The items that were read from an input.
 use Rattle.std.proofs.Common.{◌≡◌, ℕ, ◌+◌, ◌≤◌, ◌<◌, List, [], ◌∷◌, ◌++◌, length, refl, sym, ap, ◌∙◌, append_assoc, arith, inl, inr}
 use Rattle.std.proofs.lemmas.List.{append_cancel_left, append-nil}
 use Rattle.rb_history.specs.TapeBytes.{Item, item_bytes, item_span, tape, AreItemsFrom, end_of}

@@ -1,4 +1,4 @@
--- What calls of a tape's writer leave, one after the other.
+-- The result of a sequence of calls of a tape's writer.
 use Rattle.std.proofs.Common.{◌≡◌, ℕ, ◌+◌, ◌<◌, ◌≤◌, List, [], ◌∷◌, ◌++◌, length, take, drop, refl, sym, ap, ◌∙◌, subst, append_assoc, append-nil, take-append-drop, arith}
 use Rattle.std.specs.Prelude.{All, Bool, true, Option, None, Some, Result, Ok, Err, is_ok, if◌then◌else◌, OnOk, OnErr}
 use Rattle.std.proofs.lemmas.List.{drop_all, drop-append-le, length-take-le}
@@ -13,12 +13,12 @@ use Rattle.rb_tape.specs.TapeCalls.TapeCall.{Put, Resume}
 
 -- ---- one record
 
--- the bytes from `from` on, cut in two
+-- the bytes from `from` on, split at `sent`
 cut_at : (xs : List ℕ) (from sent : ℕ) → from ≤ sent → sent ≤ length xs → drop from (take sent xs) ++ drop sent xs ≡ drop from xs
 cut_at xs from sent more within =
     sym (drop-append-le from (take sent xs) (drop sent xs) (omega (arith, length-take-le sent xs within))) ∙ ap (drop from) (take-append-drop sent xs)
 
--- what is missing of a record whose first bytes went out
+-- the missing bytes of a record whose first bytes were written
 rest_behind : {A E : Type 0} (old_size new_size sent : ℕ) (unfinished : Option Item) (item : Item) (answer : Result A E) → unfinished ≡ (if is_ok answer then None else Some item) → new_size ≡ old_size
     → OnOk answer (sent ≡ item_span item) → rest_of new_size sent unfinished ≡ drop sent (item_bytes old_size item)
 rest_behind old_size new_size sent unfinished item (Ok _) is same all =
@@ -38,7 +38,7 @@ none_behind : {A E : Type 0} (unfinished : Option Item) (item : Item) (answer : 
 none_behind unfinished item answer is ok = is ∙ ap (λ b. if b then None else Some item) ok
 
 module _ {W : Type 0} (contents : W → Option (List ℕ)) where
-  -- a record was written from its byte `from` on
+  -- a record was written from its byte `from`
   pub begins_from : {A E : Type 0} (old new : TapeOutput W) (item : Item) (from : ℕ) (answer : Result A E) (items : List Item)
       → Appends (contents old.writer) (contents new.writer) (drop from (take new.sent (item_bytes old.size item))) → from ≤ new.sent → OnOk answer (new.sent ≡ item_span item) → OnErr answer (new.sent < item_span item)
       → new.unfinished ≡ (if is_ok answer then None else Some item) → new.size ≡ old.size → new.position ≡ (if is_ok answer then old.position + item_span item else old.position)
@@ -56,7 +56,7 @@ module _ {W : Type 0} (contents : W → Option (List ℕ)) where
         size_same = size;
       }
 
-  -- ---- one call after the other
+  -- ---- a sequence of calls
 
   pub begins_none : (t : TapeOutput W) → BeginsItems contents t [] t
   begins_none t = record {
@@ -94,7 +94,7 @@ module _ {W : Type 0} (contents : W → Option (List ℕ)) where
   all_finish old new ((call, ok) ∷ calls) made none oks =
       all_finish made.0 new calls made.2 (made.1.finished (All-head (λ c. c.1 ≡ true) (call, ok) calls oks)) (All-tail (λ c. c.1 ≡ true) (call, ok) calls oks)
 
-  -- ---- from nothing
+  -- ---- from a new writer on
 
   pub leaves_tape : CallsLeaveTape contents
   leaves_tape writer size start calls now made =
@@ -113,7 +113,7 @@ module _ {W : Type 0} (contents : W → Option (List ℕ)) where
 
 module _ {W : Type 0} (contents : W → Option (List ℕ)) {A E : Type 0} (old new : TapeOutput W) (item : Item) (answer : Result A E) (all : OnOk answer (new.sent ≡ item_span item)) (part : OnErr answer (new.sent < item_span item))
     (left : new.unfinished ≡ (if is_ok answer then None else Some item)) (size : new.size ≡ old.size) (moved : new.position ≡ (if is_ok answer then old.position + item_span item else old.position)) (counted : new.failures ≡ failures_after old.failures (is_ok answer)) where
-  -- a record is put behind those that are whole
+  -- a record is put after complete ones
   pub makes_put : old.unfinished ≡ None → IsItemAt old.size old.position item → Appends (contents old.writer) (contents new.writer) (take new.sent (item_bytes old.size item)) → MakesTapeCall contents old (Put item) (is_ok answer) new
   makes_put none stands went =
       let ends : end_of_begun old ≡ old.position = ap (end_behind old.position) none in

@@ -15,16 +15,16 @@ use Rattle.rb_tape.specs.TapeFront.{StartsWithItem, StartsWithHeader, IsHeaderAt
 use Rattle.rb_tape.specs.inner.FrontLook.{item_behind, HasWholeItem}
 use Rattle.rb_tape.proofs.HeaderBegins.{same_begin}
 
--- ---- an item and the header that it begins with
+-- ---- an item, and the header with which it begins
 
 regroup : (a b c d : List ℕ) → ((a ++ b) ++ c) ++ d ≡ a ++ (b ++ (c ++ d))
 regroup a b c d = simp append_assoc
 
--- what stands behind an item's header
+-- the bytes after an item's header
 abbrev behind_item : Item → List ℕ → List ℕ
 behind_item item rest = payload_of item ++ (zeros (padding (item_len item)) ++ rest)
 
--- the page of a position in a ring fits its four bytes
+-- the page of a position in a ring fits in four bytes
 item_begins : (size position : ℕ) (bytes : List ℕ) (item : Item) (rest : List ℕ) → page_of size (item_position item) < 2 ^ 32 → StartsWithItem size position bytes item rest → StartsWithHeader bytes (header_of size item) (behind_item item rest)
 item_begins size position bytes item rest p s = record {
   fields = record { len = s.stands.has_header; page = p };
@@ -39,14 +39,14 @@ begins_bytes bytes h f e = record {
   text = sym (take-append-drop 8 bytes) ∙ ap (λ x. x ++ drop 8 bytes) (sym e);
 }
 
--- what is told of a header that was read
+-- a fault of a header that was read
 moved : (size position : ℕ) (kind : TapeKind) (h k : Header) (b c : List ℕ) → h ≡ k → b ≡ c → IsFirstTapeFault size position h b kind → IsFirstTapeFault size position k c kind
 moved size position kind h k b c e f x = rw (← e, ← f) x
 
 pub page_fits : (size position : ℕ) → 0 < size → size ≤ 67108864 → page_of size position < 2 ^ 32
 page_fits size position p s = omega arith
 
--- ---- one answer alone
+-- ---- the results exclude each other
 
 -- a whole item shows no fault
 sound_header : (size position : ℕ) (item : Item) → IsItemAt size position item → IsHeaderAt size position (header_of size item)
@@ -138,7 +138,7 @@ one_kind size position h b Memory Padding x y = absurd x
 one_kind size position h b Memory Truncated x y = absurd x
 one_kind size position h b Memory Memory x y = absurd x
 
--- bytes show one first fault
+-- bytes show at most one first fault
 pub one_fault : (size position : ℕ) (bytes : List ℕ) (kind other : TapeKind) → ShowsFault size position bytes kind → ShowsFault size position bytes other → kind ≡ other
 one_fault size position bytes kind other (h, b, x, f) (k, c, y, g) =
     let same = same_begin bytes k h c b y x in
@@ -155,7 +155,7 @@ item_length size position bytes item rest s =
 begun_length : (bytes : List ℕ) (h : Header) (behind : List ℕ) → StartsWithHeader bytes h behind → length bytes ≡ 8 + length behind
 begun_length bytes h behind b = ap length b.text ∙ length-append (header_bytes h) behind
 
--- not even a header is there
+-- there is not even a whole header
 pub part_short : (size position : ℕ) (bytes : List ℕ) → length bytes < 8 → IsUndecided size position bytes
 part_short size position bytes l = record {
   no_item = λ item rest s. let e = item_length size position bytes item rest s in absurd (omega arith);
@@ -171,7 +171,7 @@ cut_faultless size position h b Padding i l x = let there = x.1 in omega arith
 cut_faultless size position h b Truncated i l x = x
 cut_faultless size position h b Memory i l x = x
 
--- the header is there and shows no fault, but not all bytes of its record are there
+-- the header is available and shows no fault, but not all bytes of its record are
 pub part_cut : (size position : ℕ) (bytes : List ℕ) (h : Header) → 0 < size → size ≤ 67108864 → StartsWithHeader bytes h (drop 8 bytes) → IsHeaderAt size position h → length bytes < span h.len → IsUndecided size position bytes
 part_cut size position bytes h p u b i l = record {
   no_item = λ item rest s.
@@ -194,9 +194,9 @@ drop-plus m n xs l =
     ap (λ k. drop (k + n) xs) (sym (length-take-le m xs l))
     ∙ (ap (drop (length (take m xs) + n)) (sym (take-append-drop m xs)) ∙ drop-append-add (take m xs) (drop m xs) n)
 
--- the item of a header that shows no fault, where all its bytes are there and those that have to be zeros are
+-- the item of a header that shows no fault, if all its bytes are available and its padding is zeros
 module _ (size position : ℕ) (bytes : List ℕ) (h : Header) (b : StartsWithHeader bytes h (drop 8 bytes)) (at : IsHeaderAt size position h) (there : span h.len ≤ length bytes) (filled : padding_behind h (drop 8 bytes) ≡ zeros (padding h.len)) where
-  -- in three parts
+  -- the three parts of the bytes
   parts : bytes ≡ ((header_bytes h ++ payload_behind h (drop 8 bytes)) ++ zeros (padding h.len)) ++ drop (span h.len) bytes
   parts =
       let behind = drop 8 bytes in
@@ -226,7 +226,7 @@ module _ (size position : ℕ) (bytes : List ℕ) (h : Header) (b : StartsWithHe
     text = let own : item_bytes size item ≡ (header_bytes h ++ payload_behind h (drop 8 bytes)) ++ zeros (padding h.len) = cc in parts ∙ ap (λ x. x ++ drop (span h.len) bytes) (sym own);
   }
 
--- ---- the two parts behind a header
+-- ---- the two parts after a header
 
 filled_span : (h : Header) → span h.len - 8 ≡ h.len + padding h.len
 filled_span h = omega arith
@@ -246,7 +246,7 @@ are_zeros p q n e l z = sym e ∙ z ∙ ap zeros l
 pub were_zeros : (p q : List ℕ) (n : ℕ) → p ≡ q → length p ≡ n → q ≡ zeros n → p ≡ zeros (length p)
 were_zeros p q n e l z = e ∙ z ∙ ap zeros (sym l)
 
--- ---- what is left of bytes that came
+-- ---- the rest of the bytes that arrived
 
 pub rest_is : (xs ys : List ℕ) (at : ℕ) → xs ≡ ys → take (length xs - at) (drop at xs) ≡ drop at ys
 rest_is xs ys at e = take_rest xs at ∙ ap (drop at) e

@@ -1,4 +1,4 @@
--- What an item that is lent says: the answer of `take` that it comes from, and its record on a tape (own).
+-- What a lent item describes: the result of `take` that found it, and its record on a tape (own).
 use Rattle.std.specs.Prelude.{ℕ, ◌≡◌, List, [], ◌∷◌, Option, None, Some}
 use Rattle.rb_history.specs.TapeBytes.{Item, item_span}
 use Rattle.rb_history.specs.TapeBytes.Item.{Event, Skip}
@@ -16,22 +16,22 @@ abbrev pub item_taken : given.Item → Taken
 item_taken (kinds.Event e) = event_taken e
 item_taken (kinds.Skip pos n) = answers.Skipped pos n
 
--- each of these answers found a record
+-- each of these results found a record
 abbrev pub AreRecords : List Taken → Type 0
 AreRecords [] = Unit {0}
 AreRecords (t ∷ ts) = HasRecord t × AreRecords ts
 
--- the next item is what was taken first; none where nothing is left
+-- the next item is the one that was taken first; none if nothing is left
 abbrev pub LendsItem : List Taken → List Taken → Option given.Item → Type 0
 LendsItem old new None = (old ≡ []) × (new ≡ [])
 LendsItem old new (Some i) = old ≡ item_taken i ∷ new
 
--- as the records of a tape, which stand in rb_history
+-- the item as a record of a tape, as rb_history defines it
 abbrev pub item_of : given.Item → Item
 item_of (kinds.Event e) = Event e.pos e.bytes.now
 item_of (kinds.Skip pos n) = Skip pos n
 
--- the records among the answers of `take`, in order, as those of a tape
+-- the records that the results of `take` found, in order, as records of a tape
 abbrev pub tape_items : List Taken → List Item
 tape_items [] = []
 tape_items (answers.Event position worker serial bytes ∷ ts) = Event position bytes ∷ tape_items ts
@@ -39,7 +39,7 @@ tape_items (answers.Skipped position n ∷ ts) = Skip position n ∷ tape_items 
 tape_items (answers.BusyFront ∷ ts) = tape_items ts
 tape_items (answers.Empty ∷ ts) = tape_items ts
 
--- how many bytes of the last record went out once all of these did, `before` where there are none
+-- how many bytes of the last record were written once all of these were; `before` if there are none
 abbrev pub sent_after : ℕ → List Item → ℕ
 sent_after before [] = before
 sent_after before (item ∷ items) = sent_after (item_span item) items

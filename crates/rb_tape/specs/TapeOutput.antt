@@ -1,4 +1,4 @@
--- A writer of a tape (own; the tape's bytes are rb_history's).
+-- The state of a tape's writer (own; rb_history defines the tape's bytes).
 use Rattle.std.specs.Prelude.{ℕ, ◌≡◌, List, ◌∷◌, ◌++◌, Option, take}
 use Rattle.std.specs.Io.KnownBytes.{Appends}
 use Rattle.rb_history.specs.TapeBytes.{Item, item_bytes, tape, end_of}
@@ -6,8 +6,9 @@ use Rattle.rb_history.specs.declared.answers.Taken.{Taken}
 use Rattle.rb_tape.specs.declared.item.Item as given
 use Rattle.rb_tape.specs.Items.{item_of, item_taken, tape_items}
 
--- a writer of a tape: the writer below, the ring's size, where the next record stands, how many bytes of the last record went out, that record
--- where some of them are still to be written, and how many calls failed
+-- A writer of a tape: the underlying writer, the ring's size, the position of the next record, the number of bytes of
+-- the last record that were written, that record if some of its bytes are still to be written, and the number of failed
+-- calls.
 pub record TapeOutput (W : Type 0) : Type 0 where
   pub writer : W
   pub size : ℕ
@@ -16,8 +17,8 @@ pub record TapeOutput (W : Type 0) : Type 0 where
   pub unfinished : Option Item
   pub failures : ℕ
 
--- of these items those before this one went out whole, of this one the bytes that `sent` counts, and nothing of those that are left
--- behind it; `contents` are the bytes that a writer has, where they are known
+-- Of these items, those before this one were written completely, then the first `sent` bytes of this one, and nothing
+-- of those after it, which are left. `contents` are the bytes that a writer has, if they are known.
 pub record StopsWithin (W : Type 0) (contents : W → Option (List ℕ)) (old new : TapeOutput W) (items left : List Taken) (item : given.Item) : Type 0 where
   pub whole : List Taken
   pub items_are : items ≡ whole ++ item_taken item ∷ left

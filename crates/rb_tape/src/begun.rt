@@ -1,4 +1,4 @@
-//! The record that a writer has begun, as clauses see it.
+//! The record that a writer has begun, for contracts only.
 
 ghost use Rattle.std.specs.Prelude.{◌≡◌};
 ghost use Rattle.std.specs.Borrow.{ftrue};
@@ -8,7 +8,8 @@ ghost use Rattle.rb_tape.specs.inner.ItemCode.{coded_item};
 use crate::item::Item;
 use std::marker::Model;
 
-/// Which record was begun. It takes no bytes, and nothing is done with it when the program runs: clauses alone read it.
+/// The record that was begun. A value of this type has no bytes and does nothing when the program runs: only contracts
+/// read it.
 #[derive(Drop)]
 pub(crate) struct Begun {
     ghost item: { Item } by { coded_item },
@@ -26,7 +27,7 @@ unsafe impl Sync for Begun {}
 impl Begun {
     ghost use Rattle.rb_tape.specs.Items.{item_of};
 
-    /// This record.
+    /// Returns the value for this record.
     pub(crate) fn of(_item: &Item<'_>) -> Begun
         ensures item { result.item ≡ item_of _item.now }
     {

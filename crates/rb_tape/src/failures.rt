@@ -1,11 +1,12 @@
-//! How many calls of a writer failed, as clauses see it.
+//! The number of failed calls of a writer, for contracts only.
 
 ghost use Rattle.std.specs.Prelude.{◌≡◌, ◌+◌, ℕ};
 ghost use Rattle.std.specs.Borrow.{ftrue};
 
 use std::marker::Model;
 
-/// How many calls failed. It takes no bytes, and nothing is done with it when the program runs: clauses alone read it.
+/// The number of failed calls. A value of this type has no bytes and does nothing when the program runs: only contracts
+/// read it.
 #[derive(Drop)]
 pub(crate) struct Failures {
     ghost count: { ℕ },
@@ -21,14 +22,14 @@ unsafe impl Send for Failures {}
 unsafe impl Sync for Failures {}
 
 impl Failures {
-    /// None so far.
+    /// Returns the count of 0.
     pub(crate) fn none() -> Failures
         ensures count { result.count ≡ 0 }
     {
         Failures {}
     }
 
-    /// One more than before.
+    /// Returns the count plus one.
     pub(crate) fn and_one(_before: &Failures) -> Failures
         ensures count { result.count ≡ _before.now.count + 1 }
     {

@@ -1,4 +1,4 @@
-//! Reading a tape that comes in pieces.
+//! A reader of a tape that arrives in pieces.
 
 ghost use Rattle.std.specs.Prelude.{◌≡◌, ◌≤◌, drop, length};
 
@@ -9,19 +9,21 @@ use rb_history::{SetupFault, is_size, is_start, span};
 use std::alloc::Global;
 use std::marker::Model;
 
-/// Reads the records of a tape that comes in pieces, in order. Each piece is given to `feed`, then `next` is asked until it gives `None`, and
-/// after the last piece `end` says whether the tape may end there. It keeps the bytes of records that were not read yet: once `next` gave
-/// `None`, those of one record that is not whole. Once it told a fault, it answers that fault ever after. For a tape that is there as a
-/// whole there is `Tape`.
+/// A reader of a tape that arrives in pieces; it returns the records in order. For a tape that is in memory as a whole
+/// there is `Tape`.
+///
+/// Pass each piece to `feed`, then call `next` until it returns `None`. After the last piece, `end` reports whether the
+/// tape may end there. The reader keeps the bytes of the records that were not read yet; once `next` has returned
+/// `None`, these are the bytes of one incomplete record. After its first fault it returns that fault from then on.
 #[derive(Drop)]
 pub struct Feed {
-    // What came and is kept. The bytes before `at` were read.
+    // The bytes that arrived and are kept. Those before `at` were read.
     bytes: Vec<u8>,
     at: usize,
     size: u64,
     start: u64,
     position: u64,
-    // The fault, once it was told.
+    // The fault that was reported, if any.
     told: Option<TapeKind>,
 }
 
@@ -36,7 +38,7 @@ impl Model for Feed {
     ghost invariant = { λ f. (f.at ≤ length f.bytes.items) × IsReading (record { size = f.size; start = f.start; position = f.position; rest = drop f.at f.bytes.items; told = f.told }) };
 }
 
-// Drops the first bytes, so many of them. Where there are none to drop, nothing is moved.
+// Removes the first `count` bytes. Moves nothing if `count` is 0.
 fn drop_front(bytes: &mut Vec<u8>, count: usize)
     requires { count ≤ length bytes.old.items }
     ensures { bytes.new.items ≡ drop count bytes.old.items }
@@ -56,8 +58,10 @@ impl Feed {
     ghost use Rattle.rb_tape.specs.TapeReading.{reading_from, AddsPiece, ReadsSoFar, EndsInput};
     ghost use Rattle.rb_tape.specs.contracts.feed.Feed.{the_row};
 
-    /// A reader of what will be fed, as the tape of a ring of `size` bytes whose first record stands at `start`; or `SetupFault`'s `Size` or
-    /// `Start` where no ring has these numbers. It takes no memory yet. In constant time.
+    /// Returns a reader for the tape of a ring of `size` bytes whose first record is at `start`; or `SetupFault::Size`
+    /// or `SetupFault::Start` if no ring has these parameters.
+    ///
+    /// Takes constant time and does not allocate.
     pub fn new(alloc: Global, size: u64, start: u64) -> Result<Feed, SetupFault>
         ensures opened { IfOk result (λ f. f ≡ reading_from size start []) }
         ensures size { IsErrOf result SetupFault.Size ↔ ¬ IsRingSize size }
@@ -81,8 +85,11 @@ impl Feed {
         })
     }
 
-    /// Adds the next piece of the tape, behind the bytes that were not read yet. `Memory` where a growth was refused: nothing changed, and
-    /// the piece may be fed again. Once `next` told a fault, that fault. In time linear in the piece, amortised.
+    /// Appends the next piece of the tape to the bytes that were not read yet. Takes time linear in the piece,
+    /// amortised.
+    ///
+    /// Returns `Memory` if memory can't be allocated: nothing changed, and the piece may be passed again. After a fault
+    /// of `next` it returns that fault.
     pub fn feed(&mut self, piece: &[u8]) -> Result<(), TapeFault>
         ensures adds { AddsPiece self.old self.new piece.now result }
     {
@@ -91,7 +98,8 @@ impl Feed {
             Some(kind) => return Err(TapeFault { kind, offset }),
             None => {}
         }
-        // What is left is moved only where at least as much was read, so no byte is moved twice for one that is read.
+        // The unread bytes are moved only if at least as many bytes were read, so each byte read pays for at most one
+        // move.
         if self.at >= self.bytes.len() - self.at {
             drop_front(&mut self.bytes, self.at);
             self.at = 0;
@@ -105,8 +113,10 @@ impl Feed {
         Ok(())
     }
 
-    /// The next record, or the first fault that the bytes show, or `None` where neither is there yet. After a fault it gives that fault
-    /// again. The record lends its bytes until the next call. In time linear in the record, amortised.
+    /// Returns the next record, or the first fault that the bytes show, or `None` if they show neither yet. After a
+    /// fault it returns that fault again. The record borrows its bytes until the next call.
+    ///
+    /// Takes time linear in the record, amortised.
     pub fn next(&mut self) -> Option<Result<Record<'_>, TapeFault>>
         ensures* reads { sem 𝓛 (Rests the_row self.entry (λ new. ReadsSoFar self.old new result)) }
     {
@@ -135,8 +145,10 @@ impl Feed {
         Some(Ok(record_at_front(&self.bytes[at..], position, header)))
     }
 
-    /// Whether the tape may end here, asked once `next` gave `None`: `Truncated` where bytes are left. Once `next` told a fault, that fault.
-    /// In constant time.
+    /// Returns whether the tape may end here, to be called once `next` has returned `None`: `Truncated` if bytes are
+    /// left. After a fault of `next` it returns that fault.
+    ///
+    /// Takes constant time.
     pub fn end(&self) -> Result<(), TapeFault>
         ensures ends { EndsInput self.now result }
     {

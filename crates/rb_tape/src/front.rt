@@ -1,4 +1,4 @@
-//! What the bytes of a tape show at their front.
+//! Examines the first record of a tape's bytes.
 
 ghost use Rattle.std.specs.Prelude.{◌≡◌, ◌↔◌, ◌≤◌, ◌^◌, IsTrue, length, drop};
 ghost use Rattle.rb_history.specs.Span as spans;
@@ -17,8 +17,8 @@ fn is_zero(bytes: &[u8]) -> bool
     bytes.iter().all(|byte| *byte == 0)
 }
 
-// The header of the whole record that the bytes begin with, `None` where they show nothing yet, or the first fault that they show. In time
-// linear in the record.
+// Returns the header of the whole record with which the bytes begin, `None` if the bytes are undecided yet, or the
+// first fault that they show. Takes time linear in the record.
 pub(crate) fn look(bytes: &[u8], size: u64, position: u64) -> Result<Option<Header>, TapeKind>
     requires size { IsRingSize size }
     requires position { position ≤ 2 ^ 62 }
@@ -29,7 +29,7 @@ pub(crate) fn look(bytes: &[u8], size: u64, position: u64) -> Result<Option<Head
     }
     let mut front = [0; 8];
     front.copy_from_slice(&bytes[..8]);
-    // A header with both bits is one with the busy bit.
+    // A header with both bits has the busy bit.
     let header = match Header::from_bytes(&front) {
         Ok(header) => header,
         Err(_) => return Err(TapeKind::Busy),
@@ -58,7 +58,7 @@ pub(crate) fn look(bytes: &[u8], size: u64, position: u64) -> Result<Option<Head
     Ok(Some(header))
 }
 
-// The record of this header, which the bytes begin with.
+// Returns the record of this header, with which the bytes begin.
 pub(crate) fn record_at_front(bytes: &[u8], pos: u64, header: Header) -> Record<'_>
     requires { spans.span header.len ≤ length bytes.now }
     ensures item { item_read result ≡ item_behind pos header (drop 8 bytes.now) }

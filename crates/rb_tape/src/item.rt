@@ -10,13 +10,13 @@ use rb_history::span;
 /// A submitted record that was taken, with its bytes.
 #[derive(Clone, Copy, Debug, PartialEq, Eq)]
 pub struct Event<'a> {
-    /// The record's position, in bytes.
+    /// The position of the record, in bytes.
     pub pos: u64,
     /// The number of the worker that submitted it.
     pub worker: u32,
-    /// How many records the ring granted that worker before.
+    /// The number of records that the ring had granted to that worker before.
     pub serial: u64,
-    /// The record's bytes.
+    /// The bytes of the record.
     pub bytes: &'a [u8],
 }
 
@@ -25,12 +25,12 @@ pub struct Event<'a> {
 pub enum Item<'a> {
     /// A submitted record.
     Event(Event<'a>),
-    /// A discarded record that was passed over: its position, and its length in bytes.
+    /// A discarded record that was skipped: its position, and its length in bytes.
     Skip(u64, u32),
 }
 
 impl Item<'_> {
-    // The record's position.
+    // Returns the record's position.
     pub(crate) fn pos(&self) -> u64
         ensures { result ≡ item_position (item_of self.now) }
     {
@@ -40,7 +40,7 @@ impl Item<'_> {
         }
     }
 
-    // How many bytes the record has.
+    // Returns the record's length in bytes.
     pub(crate) fn len(&self) -> u32
         requires { item_len (item_of self.now) < 2 ^ 32 }
         ensures { result ≡ item_len (item_of self.now) }
@@ -51,7 +51,7 @@ impl Item<'_> {
         }
     }
 
-    /// How far the record moves the positions of a ring and of its tape, in bytes.
+    /// Returns the number of bytes by which the record advances the positions of a ring and of its tape.
     pub fn span(&self) -> u64
         requires len { item_len (item_of self.now) < 2 ^ 32 }
         ensures value { result ≡ item_span (item_of self.now) }
@@ -59,7 +59,7 @@ impl Item<'_> {
         span(self.len())
     }
 
-    // The bytes that stand behind the record's header before zeros do: none of a discarded record.
+    // Returns the bytes between the record's header and its padding zeros; none for a discarded record.
     pub(crate) fn payload(&self) -> &[u8]
         ensures { result.now ≡ bytes_before_zeros (item_of self.now) }
     {

@@ -1,4 +1,4 @@
-//! Records that were taken, lent one after the other.
+//! An iterator over records that were taken.
 
 ghost use Rattle.std.specs.Prelude.{◌≡◌};
 
@@ -7,7 +7,8 @@ use rb_history::Taken;
 use rb_lend::Lent;
 use std::marker::Model;
 
-/// Records in the order in which they were taken, discarded ones too. Each in constant time; no memory is taken.
+/// An iterator over taken records, including discarded ones, in the order in which they were taken. Each step takes
+/// constant time and does not allocate.
 #[derive(Drop)]
 pub struct Items<'a> {
     rest: &'a [Taken],
@@ -28,7 +29,8 @@ impl<'a> Model for Items<'a> {
 impl<'a> Items<'a> {
     ghost use Rattle.rb_tape.specs.Items.{AreRecords};
 
-    /// The records that these answers of `take` found, from the first on; each of the answers found one.
+    /// Returns an iterator over the records that these results of `take` found. Each of the results must have found
+    /// one.
     pub fn new(taken: &'a [Taken]) -> Items<'a>
         requires records { AreRecords taken.now }
         ensures value { result ≡ taken.now }
@@ -48,7 +50,7 @@ impl<'a> Iterator for Items<'a> {
 
     ghost remaining = { λ s. at_most (length s) };
 
-    /// The next record.
+    /// Returns the next record.
     fn next(&mut self) -> Option<Item<'a>> {
         if self.rest.is_empty() {
             return None;

@@ -1,32 +1,34 @@
-//! Tapes: the records that were taken of a ring, written as bytes one behind the other (`specs/TapeBytes.antt` of `rb_history` has the format; a
-//! record's header is that of Linux Documentation/bpf/ringbuf.rst). `TapeWriter` is for programs that keep what they take, `Tape` and `Feed` for those
-//! that read it again.
+//! Writes and reads tapes. A tape is the records that were taken from a ring, written one after the other
+//! (`specs/TapeBytes.antt` of `rb_history` defines the format; a record's header is that of Linux
+//! Documentation/bpf/ringbuf.rst). `TapeWriter` writes a tape; `Tape` and `Feed` read one.
 //!
 //! # Writing
 //!
-//! Proved: `Items` lends what was taken, in order and with nothing left out. What a `put` wrote is the first `sent()` bytes of its record,
-//! and `resume`, which is for that record alone, writes the rest; `put_all` writes the tape of the records before the one that it answers, and the
-//! first `sent()` bytes of that one; each for any writer that tells its bytes. By `calls_leave_a_tape` lawful calls in any order leave a beginning of
-//! the tape of the records that they began, and the whole tape where all were Ok. No call takes memory.
+//! Proved, for any writer that specifies its bytes: `Items` lends the taken records in order, and all of them. After a
+//! `put`, the first `sent()` bytes of its record are written, and `resume`, which accepts only that record, writes the
+//! rest. `put_all` writes the tape of the records before the one that it returns as its error, and the first `sent()`
+//! bytes of that one. By `calls_leave_a_tape`, lawful calls in any order leave a prefix of the tape of the records that
+//! they began, and the whole tape if all calls returned Ok. No call allocates.
 //!
 //! ```text
 //! let mut tape = TapeWriter::new(out, 4096, 0);
 //! let mut items = Items::new(taken.as_slice());
 //! if let Err(item) = tape.put_all(&mut items) {
-//!     // `tape.sent()` bytes of this record went out; `items` has those behind it.
+//!     // `tape.sent()` bytes of this record were written; `items` has the records after it.
 //!     tape.resume(&item)?;
 //! }
 //! ```
 //!
 //! # Reading
 //!
-//! `Tape` reads bytes that are all there and takes no memory; `Feed` reads
-//! bytes that come in pieces and keeps those of records that were not read yet. Both lend each record's bytes and copy none of a record
-//! that is whole.
+//! `Tape` reads bytes that are in memory as a whole, and does not allocate. `Feed` reads bytes that arrive in pieces,
+//! and keeps those of records that were not read yet. Both lend each record's bytes; neither copies the bytes of a
+//! record that is complete.
 //!
-//! Proved: for every cutting into pieces, the records read are the longest list whose tape begins the input. Then, where bytes are left, the
-//! first fault that they show is told, exactly where they show one, and `Truncated` only at the end of bytes that show none. Nonzero padding
-//! and wrong pages are refused, so each tape is read in one way alone.
+//! Proved: however the input is cut into pieces, the records read are the longest list whose tape is a prefix of the
+//! input. If bytes are left after them, the first fault that they show is reported, if and only if they show one, and
+//! `Truncated` only at the end of bytes that show none. Nonzero padding and wrong pages are refused, so each tape can
+//! be read in only one way.
 //!
 //! ```text
 //! let bytes = [1, 0, 0, 0, 0, 0, 0, 0, 42, 0, 0, 0, 0, 0, 0, 0, 8, 0];

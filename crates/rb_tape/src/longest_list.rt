@@ -1,4 +1,4 @@
-//! The law of reading a tape, in one piece or in many.
+//! The law of reading a tape, as a whole or in pieces.
 
 ghost use Rattle.std.specs.Prelude.{◌≡◌, ℕ, ◌+◌, List, [], ◌∷◌, ◌++◌};
 ghost use Rattle.rb_history.specs.TapeBytes.{Item, item_span};
@@ -7,9 +7,12 @@ ghost use Rattle.rb_tape.specs.declared.fault.TapeKind.{TapeKind};
 ghost use Rattle.rb_tape.specs.TapeFront.{StartsWithItem, ShowsFault};
 ghost use Rattle.rb_tape.specs.LongestTape.{HasReadItems, HasNoItemNext, IsLongestList};
 
-/// What holds of reading any input in any pieces, each of which ends anywhere. At first nothing was read; a piece adds to the input and to
-/// what is left; each record that is handed out is one more item; and where none is next, the items are the longest list whose tape begins
-/// the input. Bytes show no fault where an item stands, and one first fault at most. The function does nothing; its contract is the law.
+/// States what holds of reading any input, cut into pieces at any places. Initially nothing was read. A piece extends
+/// the input and the unread rest. Each record that is returned is one more item. When no item is next, the items are
+/// the longest list whose tape is a prefix of the input. Bytes that begin with an item show no fault, and the first
+/// fault of any bytes is unique.
+///
+/// The function does nothing; its contract is the law.
 pub fn reading_gives_the_longest_list()
     ensures begins { (size start : ℕ) (input : List ℕ) → HasReadItems size start input [] start input }
     ensures piece { (size start : ℕ) (input : List ℕ) (items : List Item) (position : ℕ) (rest piece : List ℕ) →

@@ -1,4 +1,4 @@
-//! The bytes of a record, piece by piece.
+//! Writes the bytes of a record, part by part.
 
 ghost use Rattle.std.specs.Prelude.{◌≡◌, ◌+◌, ◌/◌, ◌%◌, ◌<◌, ◌≤◌, length, take, drop};
 ghost use Rattle.std.specs.Io.KnownBytes.{Appends};
@@ -13,7 +13,7 @@ use rb_history::{Header, page_of, span};
 use rb_io::write_out;
 use std::io::Write;
 
-// The header of a taken record in a ring of this size.
+// Returns the header of a taken record in a ring of this size.
 fn header_of_item(size: u64, item: &Item<'_>) -> [u8; 8]
     requires size { IsRingSize size }
     requires stands { IsItemAt size (item_position (item_of item.now)) (item_of item.now) }
@@ -29,7 +29,7 @@ fn header_of_item(size: u64, item: &Item<'_>) -> [u8; 8]
 }
 
 #[inline(always)]
-// Writes the record's header from its byte `at` on, and returns how many bytes went out.
+// Writes the record's header from the record's byte `at`, and returns the number of bytes written.
 fn write_header<W: Write>(writer: &mut W, size: u64, item: &Item<'_>, at: u64) -> usize
     requires size { IsRingSize size }
     requires stands { IsItemAt size (item_position (item_of item.now)) (item_of item.now) }
@@ -42,7 +42,8 @@ fn write_header<W: Write>(writer: &mut W, size: u64, item: &Item<'_>, at: u64) -
 }
 
 #[inline(always)]
-// Writes the bytes that stand behind the header before zeros do, from the record's byte `at` on, and returns how many went out.
+// Writes the payload, which lies between the header and the padding zeros, from the record's byte `at`, and returns the
+// number of bytes written.
 fn write_payload<W: Write>(writer: &mut W, size: u64, item: &Item<'_>, at: u64) -> usize
     requires stands { IsItemAt size (item_position (item_of item.now)) (item_of item.now) }
     requires behind { 8 ≤ at }
@@ -55,7 +56,8 @@ fn write_payload<W: Write>(writer: &mut W, size: u64, item: &Item<'_>, at: u64) 
     write_out(writer, &payload[behind as usize..])
 }
 
-// Writes zeros from the record's byte `at` on, until a write fails or takes nothing, and returns how many of the record's bytes are out by then.
+// Writes zeros from the record's byte `at`, until a write fails or accepts nothing, and returns how many of the
+// record's bytes are written by then.
 fn write_zeros<W: Write>(writer: &mut W, size: u64, item: &Item<'_>, at: u64) -> u64
     requires stands { IsItemAt size (item_position (item_of item.now)) (item_of item.now) }
     requires behind { 8 + length (bytes_before_zeros (item_of item.now)) ≤ at }
@@ -78,7 +80,7 @@ fn write_zeros<W: Write>(writer: &mut W, size: u64, item: &Item<'_>, at: u64) ->
 }
 
 #[inline(always)]
-// Writes what stands behind the record's header from its byte `from` on, as `write_from` does.
+// Writes the bytes after the record's header from the record's byte `from`, as `write_from` does.
 fn write_behind_header<W: Write>(writer: &mut W, size: u64, item: &Item<'_>, from: u64) -> u64
     requires stands { IsItemAt size (item_position (item_of item.now)) (item_of item.now) }
     requires behind { 8 ≤ from }
@@ -99,7 +101,8 @@ fn write_behind_header<W: Write>(writer: &mut W, size: u64, item: &Item<'_>, fro
 }
 
 #[inline(always)]
-/// Writes a record from its byte `from` on, until a write fails or takes nothing, and returns how many of its bytes are out by then.
+/// Writes a record from its byte `from`, until a write fails or accepts nothing, and returns how many of its bytes are
+/// written by then.
 pub(crate) fn write_from<W: Write>(writer: &mut W, size: u64, item: &Item<'_>, from: u64) -> u64
     requires size { IsRingSize size }
     requires stands { IsItemAt size (item_position (item_of item.now)) (item_of item.now) }

@@ -1,14 +1,14 @@
 //! A record that was read from a tape.
 
-/// A record of a tape. Its bytes are borrowed from what was read.
+/// A record of a tape. Its bytes are borrowed from the input.
 #[derive(Clone, Copy, Debug, PartialEq, Eq)]
 pub struct Record<'a> {
-    /// The position in the ring, in bytes, at which the record's header stood.
+    /// The position of the record in the ring, in bytes.
     pub pos: u64,
-    /// How many bytes the record had in the ring.
+    /// The length of the record in bytes.
     pub len: u32,
     /// Whether the record was discarded.
     pub discarded: bool,
-    /// The record's bytes; none where it was discarded.
+    /// The bytes of the record; none if it was discarded.
     pub bytes: &'a [u8],
 }

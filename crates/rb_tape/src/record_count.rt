@@ -1,4 +1,4 @@
-//! A whole run over a tape.
+//! Reads a whole tape.
 
 ghost use Rattle.std.specs.Prelude.{◌↔◌, IfOk, IsErrOf, OnOk, ◌≢◌, Err};
 ghost use Rattle.rb_history.specs.declared.bounds.SetupFault.TheVariants as SetupFault;
@@ -9,8 +9,10 @@ use crate::fault::TapeFault;
 use crate::tape::Tape;
 use rb_history::SetupFault;
 
-/// How many records a tape has, and what is wrong behind them, `None` where nothing is: so whether bytes are a whole tape. Refusals are
-/// those of `Tape::new`. It takes no memory, and time linear in the bytes.
+/// Returns the number of records of a tape, and the fault after them, or `None` if the bytes are a whole tape. The
+/// errors are those of `Tape::new`.
+///
+/// Takes time linear in the bytes and does not allocate.
 pub fn count_records(
     bytes: &[u8],
     size: u64,

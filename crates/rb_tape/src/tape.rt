@@ -1,4 +1,4 @@
-//! A tape that is there as a whole.
+//! A reader of a tape that is in memory as a whole.
 
 use crate::fault::{TapeFault, TapeKind};
 use crate::front::{look, record_at_front};
@@ -6,15 +6,16 @@ use crate::record::Record;
 use rb_history::{SetupFault, is_size, is_start, span};
 use std::marker::Model;
 
-/// Reads the records of a tape in order, and then what is wrong behind them; after a fault it gives `None`. It takes no memory, and the
-/// records lend their bytes from the input. For a tape that comes in pieces there is `Feed`.
+/// An iterator over the records of a tape, followed by the fault after them, if any. After a fault it returns `None`.
+/// It does not allocate, and the records borrow their bytes from the input. For a tape that arrives in pieces there is
+/// `Feed`.
 #[derive(Drop)]
 pub struct Tape<'a> {
     rest: &'a [u8],
     size: u64,
     start: u64,
     position: u64,
-    // The fault, once it was told.
+    // The fault that was reported, if any.
     told: Option<TapeKind>,
 }
 
@@ -34,8 +35,10 @@ impl<'a> Tape<'a> {
     ghost use Rattle.rb_history.specs.RingModel.{IsRingSize, IsStartPosition};
     ghost use Rattle.rb_tape.specs.TapeReading.{reading_from};
 
-    /// A reader of these bytes, as the tape of a ring of `size` bytes whose first record stands at `start`; or `SetupFault`'s `Size` or
-    /// `Start` where no ring has these numbers. In constant time.
+    /// Returns a reader of these bytes as the tape of a ring of `size` bytes whose first record is at `start`; or
+    /// `SetupFault::Size` or `SetupFault::Start` if no ring has these parameters.
+    ///
+    /// Takes constant time.
     pub fn new(bytes: &'a [u8], size: u64, start: u64) -> Result<Tape<'a>, SetupFault>
         ensures opened { IfOk result (λ t. t ≡ reading_from size start bytes.now) }
         ensures size { IsErrOf result SetupFault.Size ↔ ¬ IsRingSize size }
@@ -69,7 +72,8 @@ impl<'a> Iterator for Tape<'a> {
 
     ghost remaining = { λ s. at_most (bytes_to_read s) };
 
-    /// The next record, or what is wrong with it; `None` at the end of the bytes and after a fault. In time linear in the record.
+    /// Returns the next record, or its fault; `None` at the end of the bytes and after a fault. Takes time linear in
+    /// the record.
     fn next(&mut self) -> Option<Result<Record<'a>, TapeFault>> {
         match self.told {
             Some(_) => return None,

@@ -4,8 +4,8 @@ ghost use Rattle.rb_tape.specs.TapeCalls.{CallsLeaveTape};
 
 use std::io::Write;
 
-/// From nothing, `put`, `resume` and `put_all` in any lawful order leave a beginning of the tape of the records that they began, and the whole
-/// tape where all of them were Ok.
+/// States that `put`, `resume`, `put_all` and `write_out`, in any lawful order from a new writer on, leave a prefix of
+/// the tape of the records that they began, and the whole tape if all of them returned Ok.
 pub fn calls_leave_a_tape<W: Write>()
     ensures law { CallsLeaveTape W.contents }
 {}

@@ -1,4 +1,4 @@
-//! Writing the tape: the records that were taken, one behind the other.
+//! A writer of a tape.
 
 use crate::begun::Begun;
 use crate::failures::Failures;
@@ -10,18 +10,19 @@ use rb_io::{DeviceFault, Outgoing};
 use std::io::Write;
 use std::marker::Model;
 
-/// Writes records to a writer as a tape, one behind the other. Each call writes a record in a few pieces, so let the writer be a buffered
-/// one, and flush it at the end. No call takes memory.
+/// Writes records to an underlying writer as a tape, one after the other. No call allocates.
+///
+/// Each call writes a record in a few parts, so the underlying writer should be a buffered one; flush it at the end.
 #[derive(Drop)]
 pub struct TapeWriter<W> {
     writer: W,
     size: u64,
     position: u64,
-    // How many bytes of the last record went out.
+    // The number of bytes of the last record that were written.
     sent: u64,
-    // The last record, where some of its bytes are still to be written.
+    // The last record, if some of its bytes are still to be written.
     unfinished: Option<Begun>,
-    // How many calls failed.
+    // The number of failed calls.
     failures: Failures,
 }
 
@@ -48,7 +49,8 @@ impl<W: Write> TapeWriter<W> {
     ghost use Rattle.rb_tape.specs.TapeCalls.TapeCall.{Put, Resume};
     ghost use Rattle.rb_tape.specs.TapeOutput.{StopsWithin};
 
-    /// A tape of a ring of `size` bytes, whose first record stands at `start`. Nothing is written yet.
+    /// Returns a writer for the tape of a ring of `size` bytes whose first record is at `start`. Nothing is written
+    /// yet.
     pub fn new(writer: W, size: u64, start: u64) -> TapeWriter<W>
         requires size { IsRingSize size }
         requires start { IsStartPosition start }
@@ -64,9 +66,10 @@ impl<W: Write> TapeWriter<W> {
         }
     }
 
-    /// Writes one record: its header, its bytes, and zeros up to a multiple of eight. It stops at the first write that fails or takes
-    /// nothing; the record is then unfinished, `sent` tells how many of its bytes went out, and `resume` writes the rest. The position moves
-    /// once the record is whole.
+    /// Writes one record: its header, its bytes, and zeros up to a multiple of eight.
+    ///
+    /// It stops at the first write that fails or accepts nothing. The record is then unfinished: `sent` returns how
+    /// many of its bytes were written, and `resume` writes the rest. The position advances once the record is complete.
     pub fn put(&mut self, item: &Item<'_>) -> Result<(), DeviceFault>
         requires finished { self.old.unfinished ≡ None }
         requires stands { IsItemAt self.old.size self.old.position (item_of item.now) }
@@ -82,9 +85,11 @@ impl<W: Write> TapeWriter<W> {
         self.write_on(item, 0)
     }
 
-    /// Writes the records that are left of `items`, one behind the other, each as `put` does. It stops at the first write that fails or
-    /// takes nothing; the error is the record that is unfinished then. `items` has those behind it, so that they are written once `resume`
-    /// has written its rest.
+    /// Writes the records that are left in `items`, one after the other, each as `put` does.
+    ///
+    /// It stops at the first write that fails or accepts nothing; the error is the record that is then unfinished.
+    /// `items` keeps the records after it, which can be written once `resume` has written the rest of the unfinished
+    /// one.
     pub fn put_all<'a>(&mut self, items: &mut Items<'a>) -> Result<(), Item<'a>>
         requires finished { self.old.unfinished ≡ None }
         requires stand { AreItemsFrom self.old.size self.old.position (tape_items items.old) }
@@ -110,7 +115,8 @@ impl<W: Write> TapeWriter<W> {
         Ok(())
     }
 
-    /// Writes the bytes of the unfinished record, which `item` is, that did not go out yet. It stops as `put` does, and may be called again then.
+    /// Writes the remaining bytes of the unfinished record, which `item` must be. It stops as `put` does, and may then
+    /// be called again.
     pub fn resume(&mut self, item: &Item<'_>) -> Result<(), DeviceFault>
         requires unfinished { self.old.unfinished ≡ Some (item_of item.now) }
         ensures bytes { Appends (W.contents self.old.writer) (W.contents self.new.writer) (drop self.old.sent (take self.new.sent (item_bytes self.old.size (item_of item.now)))) }
@@ -127,7 +133,7 @@ impl<W: Write> TapeWriter<W> {
     }
 
     #[inline(always)]
-    // Writes the record from its byte `from` on.
+    // Writes the record from its byte `from`.
     fn write_on(&mut self, item: &Item<'_>, from: u64) -> Result<(), DeviceFault>
         requires stands { IsItemAt self.old.size self.old.position (item_of item.now) }
         requires from { from < item_span (item_of item.now) }
@@ -153,35 +159,36 @@ impl<W: Write> TapeWriter<W> {
         Ok(())
     }
 
-    /// How many bytes of the last record went out; 0 before the first.
+    /// Returns how many bytes of the last record were written; 0 before the first record.
     pub fn sent(&self) -> u64
         ensures value { result ≡ self.now.sent }
     {
         self.sent
     }
 
-    /// Where the next record stands, or the one that is unfinished.
+    /// Returns the position of the next record, or of the unfinished one.
     pub fn position(&self) -> u64
         ensures value { result ≡ self.now.position }
     {
         self.position
     }
 
-    /// Whether the last record is unfinished, so that `resume` has to write its rest before another one is put.
+    /// Returns whether the last record is unfinished, so that `resume` must write its rest before another record is
+    /// put.
     pub fn is_unfinished(&self) -> bool
         ensures value { result ≡ is_some self.now.unfinished }
     {
         self.unfinished.is_some()
     }
 
-    /// Returns the writer, to be looked at.
+    /// Returns a reference to the underlying writer.
     pub fn writer(&self) -> &W
         ensures value { result.now ≡ self.now.writer }
     {
         &self.writer
     }
 
-    /// The writer, with what was written to it.
+    /// Returns the underlying writer, with what was written to it.
     pub fn into_writer(self) -> W
         ensures value { result ≡ self.writer }
     {
@@ -195,7 +202,8 @@ impl<W: Outgoing> TapeWriter<W> {
     ghost use Rattle.rb_tape.specs.TapeCalls.{failures_after, MakesTapeCall};
     ghost use Rattle.rb_tape.specs.TapeCalls.TapeCall.{WriteOut};
 
-    /// Has the writer hand on what waits in it, as `Outgoing::write_out` does. It may be called again after an error.
+    /// Passes on the bytes that wait in the underlying writer, as `Outgoing::write_out` does. May be called again after
+    /// an error.
     pub fn write_out(&mut self) -> Result<(), DeviceFault>
         requires finished { self.old.unfinished ≡ None }
         ensures bytes { Keeps (W.contents self.old.writer) (W.contents self.new.writer) }

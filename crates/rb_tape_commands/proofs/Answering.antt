@@ -1,4 +1,4 @@
--- What was done says what the input says, so the answer is the one for that input.
+-- What was done determines what the input is, so the result is the one for that input.
 use Rattle.std.proofs.Common.{◌≡◌, ◌≢◌, ℕ, ◌++◌, List, [], Option, Some, None, Result, Ok, Err, refl, sym, ap, ◌∙◌, subst, append_assoc, append-nil, inl, inr}
 use Rattle.std.specs.Int.{w32, to_le_bytes}
 use Rattle.std.specs.Io.KnownBytes.{Keeps}
@@ -14,7 +14,7 @@ use Rattle.rb_tape_commands.proofs.Inputs.{says_one_thing}
 use Rattle.rb_tape_commands.specs.declared.feed_fault.FeedFault.{FeedFault}
 use Rattle.rb_tape_commands.specs.declared.feed_fault.FeedFault.TheVariants.{Size, Start, Fit, Ends, Memory, Device}
 
--- ---- before the first payload, and behind the last
+-- ---- before the first payload, and after the last
 
 -- nothing was read or written
 pub opening_fed : (size start : ℕ) (u h : Option (List ℕ)) (e : FeedFault) → IsOpeningFault e → FeedResult (feed_run size start u u h h) (Err e)
@@ -35,7 +35,7 @@ module _ (size start : ℕ) (u v h g f : Option (List ℕ)) (kept : Keeps g f) w
   breaks_handed_on : FeedBreaksOff (feed_run size start u v h g) → FeedBreaksOff (feed_run size start u v h f)
   breaks_handed_on b = record { payloads = b.payloads; more = b.more; out = b.out; missing = b.missing; stand = b.stand; read = b.read; wrote = Appends-kept h g f _ b.wrote kept; beginning = b.beginning }
 
-  -- handing on changes nothing of it
+  -- a flush does not change it
   pub handed_on : (r : Result (ℕ × ℕ) FeedFault) → FeedResult (feed_run size start u v h g) r → FeedResult (feed_run size start u v h f) r
   handed_on (Ok ends) d = record { payloads = d.payloads; fed = stops_handed_on d.payloads Whole d.fed; ends_are = d.ends_are }
   handed_on (Err Size) d = record { unread = d.unread; unwritten = Keeps-trans h g f d.unwritten kept }
@@ -57,7 +57,7 @@ module _ (size start : ℕ) (u v h g f : Option (List ℕ)) (kept : Keeps g f) w
     beginning = append-nil _;
   }
 
-  -- where handing on failed
+  -- a flush failed
   pub breaks : (r : Result (ℕ × ℕ) FeedFault) → (r ≢ Err Size) × (r ≢ Err Start) → FeedResult (feed_run size start u v h g) r → FeedBreaksOff (feed_run size start u v h f)
   breaks (Ok ends) n d = passes_break d.payloads d.fed.more d.fed.passes
   breaks (Err Size) n d = absurd (n.0 refl)
@@ -67,7 +67,7 @@ module _ (size start : ℕ) (u v h g f : Option (List ℕ)) (kept : Keeps g f) w
   breaks (Err Memory) n d = passes_break d.payloads d.more d.fed
   breaks (Err Device) n d = breaks_handed_on d
 
--- ---- what the whole input says
+-- ---- what the whole input is
 
 follows_on : (size position : ℕ) (e : Ending) (more rest : List ℕ) → Follows size position e more → IsReadTo e (Some rest) → Follows size position e (more ++ rest)
 follows_on size position Whole more rest g r = ap (λ xs. xs ++ rest) g ∙ r
@@ -100,13 +100,13 @@ only_answer size start input v h g (Err (Ends k)) n d qs f t = inl (ap (λ m. Er
 only_answer size start input v h g (Err Memory) n d qs f t = inr (inl refl)
 only_answer size start input v h g (Err Device) n d qs f t = inr (inr refl)
 
--- ---- the same, where the input may not be known
+-- ---- the same, if the input may not be known
 
 pub only_known : (size start : ℕ) (u v h g : Option (List ℕ)) (r : Result (ℕ × ℕ) FeedFault) → (r ≢ Err Size) × (r ≢ Err Start) → FeedResult (feed_run size start u v h g) r → AnswersAlone size start u r
 only_known size start None v h g r n d = tt
 only_known size start (Some input) v h g r n d = λ qs f p q t. only_answer size start input v h g r n d qs f t
 
--- an answer says what the input says
+-- a result implies what the input is
 pub tells : (size start : ℕ) (u v h g : Option (List ℕ)) (r : Result (ℕ × ℕ) FeedFault) → (r ≢ Err Size) × (r ≢ Err Start) → FeedResult (feed_run size start u v h g) r → FeedAnswerMatches size start u r
 tells size start None v h g (Ok ends) n d = tt
 tells size start (Some input) v h g (Ok ends) n d = (d.payloads, stops_says size start input v h g d.payloads Whole d.fed, d.ends_are)

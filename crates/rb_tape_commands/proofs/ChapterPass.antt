@@ -1,4 +1,5 @@
--- A payload that goes through a ring which keeps a chapter of its history, and the chapter that such a ring goes on in.
+-- A payload that passes through a ring that keeps a chapter of its history, and the chapter in which the ring
+-- continues.
 use Rattle.std.proofs.Common.{◌≡◌, ℕ, ◌+◌, ◌<◌, ◌≤◌, ◌^◌, List, [], ◌++◌, Option, length, sym, ap, ◌∙◌, arith, subst, inl, inr}
 use Rattle.std.proofs.lemmas.Bool.{cases_lt}
 use Rattle.rb_history.specs.Span.{span}
@@ -22,7 +23,7 @@ use Rattle.rb_tape_commands.specs.ChapterTurns.{IsSpareOf, MakesChapterRoom}
 use Rattle.rb_tape_commands.specs.Transfer.{MovesOn}
 use Rattle.rb_tape_commands.proofs.RingPass.{IsPassed, PassesOn, passes_on, empty_row}
 
--- ---- what the whole history says of the chapter
+-- ---- what the whole history implies for the chapter
 
 module _ (earlier : List Entry) (v : ChapterRing) (kept : IsKept earlier v.chapter) where
   said : IsSameFrom v.chapter.opening.setup earlier v.chapter.opening v.chapter.entries
@@ -38,7 +39,7 @@ module _ (earlier : List Entry) (v : ChapterRing) (kept : IsKept earlier v.chapt
   whole_producer : producer_by_chapter v ≡ producer_of v.chapter.opening.setup.start (earlier ++ v.chapter.entries)
   whole_producer = ap (λ o. o.producer) said.stands
 
-  -- where every record was taken, nothing is owed
+  -- if every record was taken, nothing is owed
   nothing_owed : AllTakenByChapter v → owed v.chapter ≡ 0
   nothing_owed at =
       let whole = earlier ++ v.chapter.entries in
@@ -49,7 +50,7 @@ module _ (earlier : List Entry) (v : ChapterRing) (kept : IsKept earlier v.chapt
 
 -- ---- a payload that is output and taken
 
--- where it stood, its bytes, and where the ring stands then
+-- its position, its bytes, and the ring's positions after it
 pub record Passes (old new : ChapterRing) (bytes : List ℕ) (p : ℕ) (s : List ℕ) : Type 0 where
   pub position_is : p ≡ producer_by_chapter old
   pub bytes_are : s ≡ bytes
@@ -97,7 +98,7 @@ module _ (earlier : List Entry) (old mid new : ChapterRing) (bytes : List ℕ) (
 
 -- ---- the next chapter
 
--- the ring stands where it stood, in a chapter of the same room and setup, whose number is at most one more
+-- the ring's positions are unchanged, in a chapter of the same room and setup, whose number is at most one more
 pub record GoesOn (old new : ChapterRing) : Type 0 where
   pub setup_same : new.chapter.opening.setup ≡ old.chapter.opening.setup
   pub room_same : new.chapter.room ≡ old.chapter.room
@@ -144,7 +145,7 @@ turn_gives_room earlier old new out kept at room a =
 
 -- ---- the spare chapter
 
--- it stays the spare one of a ring in the same chapter
+-- the spare chapter stays a spare for a ring in the same chapter
 pub spare_stays : (old new : ChapterRing) (spare : Option Chapter) → IsSameChapter old new → IsSpareOf old spare → IsSpareOf new spare
 spare_stays old new spare same is =
     let room = ap (λ (c : Chapter). c.room) same in

@@ -1,4 +1,4 @@
--- The digits by arithmetic are those of the table.
+-- The digits from arithmetic are those of the table.
 use Rattle.std.proofs.Common.{◌≡◌, ℕ, zero, suc, ◌<◌, ◌==◌, Bool, true, ◌&&◌, inl, inr, slice_index, refl, arith}
 use Rattle.std.proofs.lemmas.Bool.{and_parts, cases_lt, eqb-true}
 use Rattle.hex.specs.Hex.{lower_digits}

@@ -1,4 +1,4 @@
--- Payload after payload: what was read is their bytes, and what was written is their tape.
+-- Payload by payload: what was read is their bytes, and what was written is their tape.
 use Rattle.std.proofs.Common.{◌≡◌, ℕ, ◌+◌, ◌<◌, ◌^◌, ◌++◌, List, [], ◌∷◌, length, take, drop, Option, Ok, Err, refl, sym, ap, ◌∙◌, subst, arith, append_assoc, append-nil, take-append-drop, inl, inr}
 use Rattle.std.proofs.lemmas.Grind.{flat_map-append}
 use Rattle.std.specs.Int.{w32, to_le_bytes}
@@ -16,7 +16,7 @@ use Rattle.rb_tape_commands.specs.inner.PayloadSteps.{FeedsOne}
 use Rattle.rb_tape_commands.specs.declared.feed_fault.FeedFault.{FeedFault}
 use Rattle.rb_tape_commands.specs.declared.feed_fault.FeedFault.TheVariants.{Size, Start, Fit, Ends, Memory, Device}
 
--- ---- one payload more
+-- ---- one more payload
 
 framed_all-push : (ps : List (List ℕ)) (p : List ℕ) → framed_all (ps ++ p ∷ []) ≡ framed_all ps ++ framed p
 framed_all-push ps p = flat_map-append framed ps (p ∷ []) ∙ ap (λ xs. framed_all ps ++ xs) (append-nil (framed p))
@@ -44,7 +44,7 @@ module _ (size start : ℕ) (u v h g : Option (List ℕ)) (ps : List (List ℕ))
   pub passes_and : (w : Option (List ℕ)) (more : List ℕ) → Consumes v w more → FeedsAll (feed_run size start u w h g) ps more
   passes_and w more read = record { stand = so_far.stand; read = Consumes-trans u v w (framed_all ps) more whole_read read; wrote = so_far.wrote }
 
-  -- then what waited was handed on
+  -- then the writer flushed
   pub passes_kept : (f : Option (List ℕ)) → Keeps g f → FeedsAll (feed_run size start u v h f) ps []
   passes_kept f kept = record { stand = so_far.stand; read = so_far.read; wrote = Appends-kept h g f _ so_far.wrote kept }
 
@@ -76,7 +76,7 @@ module _ (size start : ℕ) (u v h g : Option (List ℕ)) (ps : List (List ℕ))
     beginning = append-nil _;
   }
 
-  -- a payload was read, and did not come onto the tape whole
+  -- a payload was read, and was not written to the tape whole
   pub fed_one : (w f : Option (List ℕ)) (number position : ℕ) (p : List ℕ) → number ≡ length ps → position ≡ end_of start (payload_events start ps) → size < 2 ^ 32 → FindsPayload size v w p → (e : FeedFault) → FeedsOne size position number p g f (Err e) → FeedResult (feed_run size start u w h f) (Err e)
   fed_one w f number position p count at small read Size o = absurd o
   fed_one w f number position p count at small read Start o = absurd o
@@ -111,7 +111,7 @@ module _ (size start : ℕ) (u v h g : Option (List ℕ)) (ps : List (List ℕ))
             ∙ ap (tape size) (sym (events_from-push start ps p));
       }
 
--- where the payloads end with one more
+-- the end of the payloads with one more
 pub end_of-push : (start : ℕ) (ps : List (List ℕ)) (p : List ℕ) → end_of start (payload_events start (ps ++ p ∷ [])) ≡ end_of start (payload_events start ps) + span (length p)
 end_of-push start ps p =
     let item = Event (end_of start (payload_events start ps)) p in

@@ -1,4 +1,4 @@
--- The lines that were gathered of some records.
+-- The lines collected for some records.
 use Rattle.std.proofs.Common.{◌≡◌, ℕ, List, [], ◌∷◌, ◌++◌, Ok, refl, sym, ap, ◌∙◌, subst, append-nil, true≢false}
 use Rattle.std.proofs.lemmas.Grind.{flat_map-append}
 use Rattle.std.specs.Prelude.{Bool, true, false, None}
@@ -21,12 +21,12 @@ module _ (form : LineForm) where
       text = added ∙ ap (λ l. l ++ (tape_line_as form) item) reads.text ∙ sym (flat_map-append (tape_line_as form) reads.items (item ∷ []) ∙ ap (λ l. tape_lines form reads.items ++ l) (append-nil ((tape_line_as form) item)));
     }
 
-    -- there was a record more
+    -- there was one more record
     pub gathers_on : (more : Bool) → GathersNext form mid new before after (Ok more) → more ≡ true → ReadsLines form old new after
     gathers_on true g is = one_more g.0 g.1 g.2
     gathers_on false g is = absurd (true≢false (sym is))
 
-  -- then no fault was told
+  -- then no fault was reported
   pub has_no_fault : (mid new : Reading) (before after : List ℕ) (more : Bool) → GathersNext form mid new before after (Ok more) → more ≡ true → new.told ≡ None
   has_no_fault mid new before after true g is = g.1.told
   has_no_fault mid new before after false g is = absurd (true≢false (sym is))

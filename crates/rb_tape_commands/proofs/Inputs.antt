@@ -1,4 +1,4 @@
--- An input says one thing alone: its payloads are known by its bytes, and so is what comes behind them.
+-- An input has one meaning: its bytes determine its payloads, and what follows them.
 use Rattle.std.proofs.Common.{◌≡◌, ℕ, ◌+◌, ◌<◌, ◌≤◌, ◌^◌, ◌++◌, List, [], ◌∷◌, length, refl, sym, ap, ◌∙◌, subst, arith, append_assoc, inl, inr}
 use Rattle.std.proofs.lemmas.List.{length-append}
 use Rattle.std.specs.Int.{w32, to_le_bytes}
@@ -10,7 +10,7 @@ use Rattle.rb_history.proofs.HeaderLaws.{same_first_word, end_of-nil, end_of-con
 use Rattle.rb_tape_commands.specs.Input.{framed, framed_all, payload_events, Ending, Follows, InputIs}
 use Rattle.rb_tape_commands.specs.Input.Ending.{Whole, Unfit, Cut}
 
--- ---- one payload in front
+-- ---- one payload at the front
 
 regroup : (payload rest : List ℕ) → framed payload ++ rest ≡ to_le_bytes w32 (length payload) ++ (payload ++ rest)
 regroup payload rest = append_assoc (to_le_bytes w32 (length payload)) payload rest
@@ -20,7 +20,7 @@ same_payload p q xs ys hp hq e =
     let word = same_first_word (length p) (length q) (p ++ xs) (q ++ ys) hp hq (sym (regroup p xs) ∙ e ∙ regroup q ys) in
     halves p xs q ys word.0 word.1
 
--- a payload that fits stands in front: nothing else does
+-- if a payload that fits is at the front, nothing else is
 not_whole : (q more : List ℕ) → framed q ++ more ≡ [] → ⊥
 not_whole q more e = let l = ap length e in absurd (omega (arith, length-append (framed q) more, length-append (to_le_bytes w32 (length q)) q))
 
@@ -43,7 +43,7 @@ not_over size position q more Cut i (inr t) =
     let same = ap length word.1 in
     omega (arith, word.0, t.short, length-append q more)
 
--- ---- what comes behind the payloads
+-- ---- what follows the payloads
 
 long_field : (n : ℕ) (xs : List ℕ) → 4 ≤ length (to_le_bytes w32 n ++ xs)
 long_field n xs = omega (arith, length-append (to_le_bytes w32 n) xs)

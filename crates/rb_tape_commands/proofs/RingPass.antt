@@ -1,4 +1,4 @@
--- A record that is output to a ring in which all were taken is the next one taken, and then all are again.
+-- A record that is output to a ring in which all records were taken is the next one taken; then all are taken again.
 use Rattle.std.proofs.Common.{◌≡◌, ℕ, ◌+◌, ◌≤◌, ◌^◌, true, false, not, cond, List, [], ◌∷◌, ◌++◌, length, Some, refl, sym, ap, ◌∙◌, arith, subst, append_assoc}
 use Rattle.std.proofs.lemmas.Bool.{false_from_ne_true, eq-eqb}
 use Rattle.std.specs.Cmp.{nat_cmp_total}
@@ -20,7 +20,7 @@ use Rattle.rb_history.proofs.Steps.{producer-res, producer-sub, producer-take, c
 use Rattle.rb_history.proofs.Laws.{legal-front, legal-next, kept-from-legal}
 use Rattle.rb_history.proofs.Contents.{hit-yes}
 
--- a row of records from a position to itself is empty
+-- consecutive records from a position to itself are none
 pub empty_row : (p : ℕ) (ss : List Shown) → InRow p ss p → ss ≡ []
 empty_row p [] row = refl
 empty_row p (s ∷ ss) row = absurd (omega (arith, row_grows (p + span s.len) ss p row.1))
@@ -89,7 +89,7 @@ module _ (r : Setup) (h : List Entry) (k n : ℕ) (at : producer_of r.start h �
         let left : List Shown = record { pos = x; len = n; worker = 0; serial = k; status = Waiting } ∷ [] in
         third ∙ rw (second, first, no_records, same) (ap (λ b. cond {A = List Shown} (not b) left []) same)
 
-    -- the take leaves no record, so both positions are one
+    -- the take leaves no record, so both positions are equal
     pub emptied : IsLegal r (((h ++ Res 0 k n (producer_of r.start h) ∷ []) ++ Sub (producer_of r.start h) ∷ []) ++ Take (producer_of r.start h) ∷ []) → producer_of r.start (((h ++ Res 0 k n (producer_of r.start h) ∷ []) ++ Sub (producer_of r.start h) ∷ []) ++ Take (producer_of r.start h) ∷ []) ≡ consumer_of r.start (((h ++ Res 0 k n (producer_of r.start h) ∷ []) ++ Sub (producer_of r.start h) ∷ []) ++ Take (producer_of r.start h) ∷ [])
     emptied l =
         let kept = kept-from-legal r _ l in
@@ -97,14 +97,14 @@ module _ (r : Setup) (h : List Entry) (k n : ℕ) (at : producer_of r.start h �
 
 -- ---- the calls
 
--- the ring is the same ring, has again no record that was not taken, and has moved on by a record of n bytes
+-- the ring is the same ring, has again only records that were taken, and has advanced by a record of n bytes
 pub record PassesBy (old new : Ring) (n : ℕ) : Type 0 where
   pub setup_same : new.setup ≡ old.setup
   pub all_taken : AllTaken new
   pub producer_is : producer_now new ≡ producer_now old + span n
   pub bounded : producer_now old + span n ≤ 2 ^ 62
 
--- the take handed out these bytes, as the record at the producer position from before
+-- the take returned these bytes, as the record at the earlier producer position
 abbrev pub IsPassed : Ring → List ℕ → Taken → Type 0
 IsPassed old bytes (Event p w k s) = (p ≡ producer_now old) × (s ≡ bytes)
 IsPassed old bytes (Skipped p n) = ⊥
@@ -164,7 +164,7 @@ module _ (old mid : Ring) (bytes : List ℕ) (at : AllTaken old) (o : Outputs ol
         bounded = o.room.limit;
       }
 
--- what the output and the take of a payload come to
+-- the effect of outputting and taking a payload
 pub record PassesOn (old new : Ring) (bytes : List ℕ) (t : Taken) : Type 0 where
   pub is_event : IsPassed old bytes t
   pub moves : (p w k : ℕ) (s : List ℕ) → t ≡ Event p w k s → PassesBy old new (length bytes)

@@ -1,4 +1,4 @@
--- Calls of a tape's writer, one run of them behind the other.
+-- Sequences of calls of a tape's writer.
 use Rattle.std.proofs.Common.{◌≡◌, ◌≢◌, true≢false, ℕ, ◌+◌, List, [], ◌∷◌, ◌++◌, refl, subst, ap, ◌∙◌, zero, zero-add, ◌⊎◌, inl, inr}
 use Rattle.std.specs.Prelude.{Bool, true, false, Option, None, IfSome, Result, Ok, Err, is_ok}
 use Rattle.std.specs.Io.KnownBytes.{Keeps}
@@ -22,7 +22,7 @@ module _ {W : Type 0} (contents : W → Option (List ℕ)) where
   pub calls_on : (a b c : TapeOutput W) → LeadsByCalls contents a b → LeadsByCalls contents b c → LeadsByCalls contents a c
   calls_on a b c first second = (first.0 ++ second.0, joined first.0 second.0 a b c first.1 second.1)
 
-  -- a tape is the same, and then its writer handed on what waited
+  -- a tape is unchanged, and then its writer flushed
   pub waited : (a b c : TapeOutput W) (ok : Bool) → IsSameTape contents a b → c.size ≡ b.size → c.position ≡ b.position → c.unfinished ≡ None → Keeps (contents b.writer) (contents c.writer) → MakesTapeCall contents b WriteOut ok c
       → IsSameTape contents a c
   waited a b c ok same size position finished kept call = record {
@@ -33,7 +33,7 @@ module _ {W : Type 0} (contents : W → Option (List ℕ)) where
     calls = calls_on a b c same.calls (one_call b c WriteOut ok call);
   }
 
--- from a tape of which nothing was written, by calls of its writer, and then by handing on
+-- from a tape with nothing written, by calls of its writer, and then by a flush
 module _ {W : Type 0} (contents : W → Option (List ℕ)) (writes_out : W → Bool → W → Type 0) (writer : W) (size start retries : ℕ) (first last : TapeOutput W) (fresh : first ≡ fresh_tape writer size start) where
   pub ends_so : (answer : Result (ℕ × ℕ) FeedFault) (below new : W) (left : ℕ) (ok : Bool) → LeadsByCalls contents first last → CountsRetries (first.failures + retries) left last
       → IfSome last.unfinished (λ item. last.failures ≡ first.failures + retries + 1) → (last.failures ≡ first.failures + retries + 1 → answer ≡ Err Device) → below ≡ last.writer
@@ -52,7 +52,7 @@ module _ {W : Type 0} (contents : W → Option (List ℕ)) (writes_out : W → B
         failed = failed;
       }
 
--- where the answer is not Device, each call that failed took one retry
+-- if the result is not Device, each failed call used one retry
 pub none_gave_up : {A : Type 0} (retries left failures : ℕ) (answer : Result A FeedFault) → (failures + left ≡ retries) ⊎ ((failures ≡ retries + 1) × (left ≡ zero)) → (failures ≡ retries + 1 → answer ≡ Err Device)
     → answer ≢ Err Device → failures + left ≡ retries
 none_gave_up retries left failures answer (inl each) gave_up other = each

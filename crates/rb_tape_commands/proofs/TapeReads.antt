@@ -1,4 +1,4 @@
--- What was read of a tape so far, and what an answer says then of the whole input.
+-- What was read of a tape so far, and what a result then implies for the whole input.
 use Rattle.std.proofs.Common.{◌≡◌, ◌≢◌, ℕ, ◌+◌, ◌-◌, ◌≤◌, List, [], ◌∷◌, ◌++◌, length, take, drop, None, Some, IfSome, Result, Ok, Err, refl, sym, ap, ◌∙◌, subst, arith, append_assoc, append-nil, take-append-drop, true≢false, inl, inr}
 use Rattle.std.proofs.lemmas.List.{take-append-le, drop-append-le, length-append, length-drop}
 use Rattle.std.proofs.lemmas.Grind.{flat_map-append}
@@ -43,7 +43,7 @@ module _ (form : LineForm) where
   passes-told old new [] none same = ap (λ r. r.told) same ∙ none
   passes-told old new (item ∷ items) none all = passes-told all.0 new items all.1.told all.2
 
-  -- items that the reader goes over are read behind those before
+  -- items that the reader passes are appended to those read before
   read_on : (size start : ℕ) (bytes : List ℕ) (before : List Item) (old new : Reading) (items : List Item) → old.size ≡ size → HasReadItems size start bytes before old.position old.rest → PassesItems old items new
       → HasReadItems size start bytes (before ++ items) new.position new.rest
   read_on size start bytes before old new [] is read same =
@@ -69,7 +69,7 @@ module _ (form : LineForm) where
     printed = Appends-nil h;
   }
 
-  -- no bytes show anything
+  -- no bytes show no fault
   pub nothing_shown : (size position : ℕ) → IsUndecided size position []
   nothing_shown size position = record {
     no_item = λ item rest s.
@@ -82,7 +82,7 @@ module _ (form : LineForm) where
   }
 
   module _ (size start : ℕ) (u v h g : Option (List ℕ)) (r : Reading) (so_far : PrintsSoFar form size start u v h g r) where
-    -- a piece more was read
+    -- one more piece was read
     pub piece_more : (w : Option (List ℕ)) (piece : List ℕ) (new : Reading) → Consumes v w piece → new ≡ record r { rest = r.rest ++ piece } → PrintsSoFar form size start u w h g new
     piece_more w piece new read same = subst (PrintsSoFar form size start u w h g) (sym same) (record {
       bytes = so_far.bytes ++ piece;
@@ -95,7 +95,7 @@ module _ (form : LineForm) where
       printed = so_far.printed;
     })
 
-    -- what was printed went out, and more of the input came to hand
+    -- the output was flushed, and more of the input was buffered
     pub more_at_hand : (w f : Option (List ℕ)) → Keeps v w → Keeps g f → PrintsSoFar form size start u w h f r
     more_at_hand w f left out = record {
       bytes = so_far.bytes;
@@ -108,7 +108,7 @@ module _ (form : LineForm) where
       printed = Appends-kept h g f _ so_far.printed out;
     }
 
-    -- records more were read, and their lines were printed
+    -- more records were read, and their lines were printed
     pub items_more : (f : Option (List ℕ)) (items : List Item) (new : Reading) → PassesItems r items new → Appends g f (tape_lines form items) → PrintsSoFar form size start u v h f new
     items_more f items new passes prints = record {
       bytes = so_far.bytes;
@@ -121,7 +121,7 @@ module _ (form : LineForm) where
       printed = subst (Appends h f) (sym (flat_map-append (tape_line_as form) so_far.items items)) (Appends-trans h g f _ _ so_far.printed prints);
     }
 
-  -- ---- what more bytes leave of a fault that shows
+  -- ---- a fault that shows still shows with more bytes
 
   taken_same : (n : ℕ) (behind more : List ℕ) → n ≤ length behind → take n (behind ++ more) ≡ take n behind
   taken_same n behind more h = take-append-le n behind more h
@@ -151,10 +151,10 @@ module _ (form : LineForm) where
   shows_stays size position bytes more kind s =
       (s.0, s.1 ++ more, record { fields = s.2.fields; text = ap (λ x. x ++ more) s.2.text ∙ append_assoc (header_bytes s.0) s.1 more }, fault_stays size position s.0 s.1 more kind s.3)
 
-  -- ---- what an answer says of the whole input
+  -- ---- what a result implies for the whole input
 
   module _ (size start : ℕ) (ring : IsRingSize size) (input left : List ℕ) (h g : Option (List ℕ)) (r : Reading) (so_far : PrintsSoFar form size start (Some input) (Some left) h g r) where
-    -- the reader has the rest of the whole input before it
+    -- the rest of the whole input is ahead of the reader
     read_of_input : HasReadItems size start input so_far.items r.position (r.rest ++ left)
     read_of_input = subst (λ i. HasReadItems size start i so_far.items r.position (r.rest ++ left)) (sym so_far.read) (fed size start so_far.bytes so_far.items r.position r.rest left so_far.items_read)
 
@@ -208,7 +208,7 @@ module _ (form : LineForm) where
   first_is_some : (size start : ℕ) (input : List ℕ) (h g : Option (List ℕ)) → PrintsFirst form size start input h g → PrintsSome form size start input h g
   first_is_some size start input h g p = record { items = p.items; rest = p.rest; splits = p.splits; out = tape_lines form p.items; missing = []; printed = p.printed; beginning = append-nil _ }
 
-  -- ---- the same, where the input may be unknown
+  -- ---- the same, if the input may be unknown
 
   module _ (size start : ℕ) (ring : IsRingSize size) where
     pub answers_fault : (u v h g f : Option (List ℕ)) (r : Reading) (kind : TapeKind) (offset : ℕ) → PrintsSoFar form size start u v h g r → ShowsFault r.size r.position r.rest kind → offset ≡ r.position - r.start → Keeps g f → IfSome u (λ input. TapeAnswer form size start input h f (Err (Record kind offset)))
@@ -259,7 +259,7 @@ module _ (form : LineForm) where
     answers_end (Some input) (Some left) (Some none) h g r (Err Memory) s read at_end undecided ends = absurd ends
     answers_end (Some input) (Some left) (Some none) h g r (Err Device) s read at_end undecided ends = absurd ends
 
-    -- the lines of what was read went out, and then a fault showed, or there was no memory
+    -- the lines of what was read were written, and then a fault showed, or memory ran out
     pub answers_gathered : (u v h g f : Option (List ℕ)) (r new : Reading) (lines : List ℕ) (e : TapeRefusal) → PrintsSoFar form size start u v h g r → GathersLines form r new lines (Err e) → Appends g f lines → IfSome u (λ input. TapeAnswer form size start input h f (Err e))
     answers_gathered u v h g f r new lines (Record kind offset) s p prints =
         let all = p.1 in
@@ -271,7 +271,7 @@ module _ (form : LineForm) where
     answers_gathered u v h g f r new lines Size s p prints = absurd p
     answers_gathered u v h g f r new lines Start s p prints = absurd p
 
-    -- a beginning of the gathered lines went out, and then the output failed
+    -- a prefix of the collected lines was written, and then the output failed
     pub answers_cut : (u v h g f : Option (List ℕ)) (r new : Reading) (lines : List ℕ) (n : ℕ) (result : Result (Unit {0}) TapeRefusal) → PrintsSoFar form size start u v h g r → GathersLines form r new lines result → Appends g f (take n lines) → IfSome u (λ input. TapeAnswer form size start input h f (Err Device))
     answers_cut u v h g f r new lines n (Ok _) s p prints = answers_lines u v h g f r new p.0.items n s p.0.passes (subst (λ l. Appends g f (take n l)) p.0.text prints)
     answers_cut u v h g f r new lines n (Err (Record kind offset)) s p prints = answers_lines u v h g f r p.0 p.1.items n s p.1.passes (subst (λ l. Appends g f (take n l)) p.1.text prints)
@@ -290,7 +290,7 @@ module _ (form : LineForm) where
   piece_added r new piece (Ok _) failed a e f = a.1
   piece_added r new piece (Err x) failed a e f = absurd (true≢false (sym e ∙ f))
 
-  -- ---- what waited is handed on behind it all
+  -- ---- the final flush
 
   module _ (size start : ℕ) (input : List ℕ) (h g f : Option (List ℕ)) (kept : Keeps g f) where
     tape_handed_on : (fault : Option (TapeKind × ℕ)) → PrintsTape form size start input fault h g → PrintsTape form size start input fault h f
@@ -332,7 +332,7 @@ module _ (form : LineForm) where
   pub opened_answer : (size start : ℕ) (r : Reading) (u h g : Option (List ℕ)) (result : Result (Unit {0}) TapeRefusal) → r ≡ reading_from size start [] → IfSome u (λ input. TapeAnswer form r.size r.start input h g result) → IfSome u (λ input. TapeAnswer form size start input h g result)
   opened_answer size start r u h g result opened a = subst (λ (q : Reading). IfSome u (λ input. TapeAnswer form q.size q.start input h g result)) opened a
 
-  -- at Ok the input is a tape
+  -- if the result is Ok, the input is a tape
   pub whole_tape : (size start : ℕ) (u h g : Option (List ℕ)) (result : Result (Unit {0}) TapeRefusal) → IfSome u (λ input. TapeAnswer form size start input h g result) → OnOk result (IfSome u (IsTape size start))
   whole_tape size start None h g (Ok _) a = tt
   whole_tape size start (Some input) h g (Ok _) a = (a.items, subst (IsTapeAndRest size start input a.items) a.whole a.splits)

@@ -1,4 +1,4 @@
--- What is unread of a reader over which a buffer was just made.
+-- The unread input of a reader over which a buffer was just created.
 use Rattle.std.proofs.Common.{◌≡◌, ℕ, List, [], Option, None, Some, refl, ap, ◌∙◌}
 use Rattle.std.specs.Io.KnownBytes.{prepend_known}
 use Rattle.rb_io.specs.Gathered.{ReadOn}

@@ -1,4 +1,4 @@
--- What a read of the next payload finds, where the reader's bytes were `old` before and are `new` after.
+-- What a read of the next payload finds. `old` and `new` are the reader's bytes before and after.
 use Rattle.std.specs.Prelude.{ℕ, ◌≡◌, ◌<◌, ◌≤◌, ◌^◌, ◌⊎◌, List, [], length, Option, Some, None, Result, Ok, Err}
 use Rattle.std.specs.Int.{w32, to_le_bytes}
 use Rattle.std.specs.Io.KnownBytes.{Consumes, IsAtEnd}
@@ -7,7 +7,7 @@ use Rattle.rb_tape_commands.specs.Input.{framed, IsCutLength, IsCutPayload}
 use Rattle.rb_tape_commands.specs.declared.feed_fault.FeedFault.{FeedFault}
 use Rattle.rb_tape_commands.specs.declared.feed_fault.FeedFault.TheVariants.{Size, Start, Fit, Ends, Memory, Device}
 
--- a whole payload, which the ring has room for
+-- a whole payload for which the ring has room
 pub record FindsPayload (size : ℕ) (old new : Option (List ℕ)) (payload : List ℕ) : Type 0 where
   pub read : Consumes old new (framed payload)
   pub room : span (length payload) < size
@@ -24,7 +24,7 @@ pub record FindsUnfit (size : ℕ) (old new : Option (List ℕ)) : Type 0 where
   pub has_field : len < 2 ^ 32
   pub no_room : size ≤ span len
 
--- less than a whole payload, and then nothing
+-- less than a whole payload, followed by the end
 pub record FindsCut (size : ℕ) (old new : Option (List ℕ)) : Type 0 where
   pub part : List ℕ
   pub read : Consumes old new part
@@ -36,7 +36,7 @@ pub record FindsSome (old new : Option (List ℕ)) : Type 0 where
   pub part : List ℕ
   pub read : Consumes old new part
 
--- by the answer, for the payload of this number
+-- the finding for each result, for the payload with this number
 abbrev pub FindsNext : ℕ → ℕ → Option (List ℕ) → Option (List ℕ) → Result (Option (List ℕ)) FeedFault → Type 0
 FindsNext size number old new (Ok (Some payload)) = FindsPayload size old new payload
 FindsNext size number old new (Ok None) = FindsEnd old new

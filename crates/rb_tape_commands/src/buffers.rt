@@ -1,4 +1,4 @@
-//! `feed` and `tape` over buffers, from any reader to any writer.
+//! Buffered `feed` and `tape`, from any reader to any writer.
 
 ghost use Rattle.std.specs.Prelude.{IfSome, OnOk};
 ghost use Rattle.rb_history.specs.RingModel.{IsRingSize, IsStartPosition};
@@ -14,7 +14,8 @@ use rb_json::LineForm;
 use std::alloc::Global;
 use std::io::{Read, Write};
 
-/// Writes the tape of the payloads, as `feed` does, over buffers. Out of memory for the buffers comes before all other errors.
+/// Writes the tape of the payloads, as `feed` does, with buffers. Failing to allocate the buffers is reported before
+/// any other error.
 pub fn feed_buffered<R: Read, W: Write>(
     alloc: Global,
     input: &mut R,
@@ -36,7 +37,8 @@ pub fn feed_buffered<R: Read, W: Write>(
     feed(alloc, &mut reader, writer, size, start, retries).0
 }
 
-/// Prints the records of the tape, as `tape` does, over buffers. Out of memory for the buffers comes before all other errors.
+/// Prints the records of the tape, as `tape` does, with buffers. Failing to allocate the buffers is reported before any
+/// other error.
 pub fn tape_buffered<R: Read, W: Write>(
     alloc: Global,
     input: &mut R,

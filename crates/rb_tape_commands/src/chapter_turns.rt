@@ -1,4 +1,5 @@
-//! Chapters that are turned before they are full, so that a ring runs on in the memory that it was opened with.
+//! Switching to a spare chapter before the current one is full, so that a ring runs in the memory that it was opened
+//! with.
 
 ghost use Rattle.std.specs.Prelude.{ℕ, ◌≡◌, ◌<◌, ◌^◌, OnOk};
 ghost use Rattle.rb_chapter_ring.specs.ChapterRoom.{MayGrant};
@@ -8,8 +9,9 @@ ghost use Rattle.rb_tape_commands.specs.ChapterTurns.{IsSpareOf, MakesChapterRoo
 use rb_chapter_ring::{Chapter, RingState};
 
 #[inline]
-/// Has a ring in which every record was taken go on in the spare chapter, where its own has no room for what one more record logs:
-/// its grant, its submit and its take. The old chapter is emptied, and is the next spare one.
+/// Makes a ring in which every record was taken continue in the spare chapter, if its own chapter has no room for the
+/// entries of one more record: its grant, its submit and its take. The old chapter is emptied and becomes the spare
+/// one.
 pub(crate) fn make_chapter_room(ring: &mut RingState, spare: &mut Option<Chapter>)
     requires all_taken { AllTakenByChapter ring.old.state.ring }
     requires number { ring.old.state.ring.chapter.number < 2 ^ 62 }
@@ -25,7 +27,7 @@ pub(crate) fn make_chapter_room(ring: &mut RingState, spare: &mut Option<Chapter
 
 #[cold]
 #[inline(never)]
-// Hands the ring's chapter out for the spare one.
+// Hands out the ring's chapter in exchange for the spare one.
 fn turn_chapter(ring: &mut RingState, spare: &mut Option<Chapter>)
     requires all_taken { AllTakenByChapter ring.old.state.ring }
     requires full { ¬ MayGrant ring.old.state.ring.chapter }

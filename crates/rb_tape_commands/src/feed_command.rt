@@ -1,4 +1,4 @@
-//! Payloads in, their tape out.
+//! The command `feed`: reads payloads and writes their tape.
 
 ghost use Rattle.std.specs.Prelude.{◌≡◌, ◌≢◌, [], ◌+◌, ◌<◌, ◌≤◌, ◌⊎◌, ◌↔◌, List, ℕ, None, Some, Err, IsErrOf, IfOk, IfErr, IfSome, IsSome, OnOk, length};
 ghost use Rattle.rb_history.specs.Span.{span};
@@ -24,11 +24,11 @@ use rb_tape::{Event, Item, TapeWriter};
 use std::alloc::Global;
 use std::io::Write;
 
-// How many entries a chapter of the ring has room for. A payload logs three, so that the ring goes on in another one before each 86th
-// payload; the two chapters' entries take 16 KiB, and stay in a processor's nearest cache.
+// The room of the ring's chapters, in entries. A payload logs three, so the ring switches chapters before each 86th
+// payload. The two chapters' entries take 16 KiB and stay in the processor's L1 cache.
 const ROOM: u32 = 256;
 
-// A payload through the ring and onto the tape. Its sheet comes back.
+// Passes a payload through the ring to the tape. Returns its sheet (the byte buffer of a record).
 fn feed_one<W: Write>(
     ring: &mut RingState,
     tape: &mut TapeWriter<W>,
@@ -67,8 +67,8 @@ fn feed_one<W: Write>(
     Ok(payload)
 }
 
-// Payload after payload, until the input ends or one is refused: where the producer and the consumer stand then. Before each the ring goes
-// on in the spare chapter, where its own has no room for it.
+// Feeds payloads until the input ends or one is refused, and returns the producer and consumer positions. Before each
+// payload, the ring continues in the spare chapter if its own has no room for it.
 fn feed_all<R: Incoming, W: Outgoing>(
     ring: &mut RingState,
     spare_chapter: &mut Option<Chapter>,
@@ -99,17 +99,20 @@ fn feed_all<R: Incoming, W: Outgoing>(
     Ok((ring.query(3), ring.query(2)))
 }
 
-/// Reads payloads, each a length in four bytes, the lowest first, and that many bytes; puts each through a ring of `size`
-/// bytes that begins at `start`, and writes the tape of their records, from the start on. Returns the producer and the consumer
-/// position at the end, and the writer.
+/// Reads payloads, each as a length in four bytes, little-endian, followed by that many bytes. Puts each through a ring
+/// of `size` bytes that starts at `start`, and writes the tape of their records, from the start on. Returns the final
+/// producer and consumer positions, and the writer.
 ///
-/// Nothing waits in the writer whenever the input is read: the whole tape of all payloads that have come was handed on by then. `Incoming` demands it.
+/// Whenever the input is read, the whole tape of all payloads that have arrived was flushed before, as `Incoming`
+/// requires.
 ///
-/// `Size` and `Start` come before anything is read. A payload whose record is too long for the ring is refused from its length
-/// alone. After a write or a handing on that failed, the writing goes on where it stopped, `retries` times in the whole run, and then it is
-/// `Device`. Whatever is returned, the whole tape of the payloads before was written and handed on, unless the writer itself
-/// failed. The writer is called a few times for each payload: buffer it. No memory is taken once the ring is opened, but for a payload
-/// that is longer than all before it.
+/// `Size` and `Start` are returned before anything is read. A payload whose record is too long for the ring is refused
+/// from its length alone. After a write or flush that failed, writing resumes where it stopped, `retries` times in the
+/// whole run; the next failure returns `Device`. Whatever is returned, the whole tape of the payloads before was
+/// written and flushed, unless the writer itself failed.
+///
+/// The writer is called a few times for each payload, so use a buffered one. No memory is allocated after the ring was
+/// opened, except for a payload that is longer than all before it.
 pub fn feed<R: Incoming, W: Outgoing>(
     alloc: Global,
     reader: &mut R,
@@ -118,16 +121,17 @@ pub fn feed<R: Incoming, W: Outgoing>(
     start: u64,
     retries: u32,
 ) -> (Result<(u64, u64), FeedFault>, W)
-    // What was read and written, by the answer, however often a write was taken up again.
+    // What was read and written, by the result, however often a write was retried.
     ensures fed { FeedResult (record { size = size; start = start; input_before = R.remaining reader.old; input_after = R.remaining reader.new; output_before = W.contents writer; output_after = W.contents result.1 }) result.0 }
 
-    // Nothing of it waits in the writer, where nothing did before and no device failed.
+    // The writer holds nothing back, if it held nothing back before and no device failed.
     ensures handed_on { W.waiting writer ≡ [] → result.0 ≢ Err FeedFault.Device → W.waiting result.1 ≡ [] }
 
-    // A writer is handed back as it was, or was at last called to hand on. Each failure took one of the retries, and there were no others.
+    // A writer is returned unchanged, or was finally called to flush. Each failure used one retry, and there were no
+    // other failures.
     ensures handed_out { (result.1 ≡ writer) ⊎ WritesOutAtEnd W.contents W.writes_out writer size start retries result.0 result.1 }
 
-    // Which answer it is.
+    // The conditions of each result.
     ensures size { IsErrOf result.0 FeedFault.Size ↔ ¬ IsRingSize size }
     ensures start { IsErrOf result.0 FeedFault.Start ↔ (IsRingSize size × ¬ IsStartPosition start) }
     ensures bounds { OnOk result.0 (IsRingSize size × IsStartPosition start) }
@@ -140,7 +144,7 @@ pub fn feed<R: Incoming, W: Outgoing>(
     }
 }
 
-// The ring that the payloads go through, a chapter for it to go on in, and a sheet for them.
+// Opens the ring that the payloads go through, with a spare chapter and a sheet for the payloads.
 fn open(
     alloc: Global,
     size: u64,
@@ -168,7 +172,7 @@ fn open(
     }
 }
 
-// The payloads through the ring and onto the writer, which hands all of them on.
+// Passes the payloads through the ring to the writer, which flushes all of them.
 fn feed_ring<R: Incoming, W: Outgoing>(
     opened: (RingState, Option<Chapter>, Sheet),
     reader: &mut R,

@@ -1,8 +1,9 @@
-//! The commands `feed` and `tape`: payloads through a ring onto a tape (ringbuf.rst has a record's header), and a tape's records as lines.
+//! The commands `feed` and `tape`: payloads through a ring onto a tape (ringbuf.rst describes a record's header), and a
+//! tape's records as lines.
 //!
-//! For `rbhost`, and for whoever wants either over readers and writers of his own. What is promised: what `feed` read and wrote, by its
-//! answer, and that `tape` prints the lines of the longest list of records whose tape begins its input, and tells the first fault behind
-//! them.
+//! For `rbhost`, and for embedding over other readers and writers. The contracts state what `feed` read and wrote, by
+//! its result, and that `tape` prints the lines of the longest list of records whose tape is a prefix of its input, and
+//! reports the first fault after them.
 #![tactic(auto)]
 
 mod buffers;

@@ -1,13 +1,14 @@
-//! Text that is put together in a room.
+//! Text that is assembled in a buffer.
 
 use crate::hex_digits::write_digits;
 use std::alloc::{AllocError, Global};
 use std::marker::Model;
 
-/// Lines that are gathered, to go out in one write. Room is taken for a line before it is put together, so that its parts are plain copies.
+/// Lines that are collected for one write. Space for a line is reserved before it is assembled, so its parts are plain
+/// copies.
 #[derive(Drop)]
 pub(crate) struct Lines {
-    // Of these bytes the first `count` are the text. What stands behind them means nothing.
+    // The first `count` of these bytes are the text; the others have no meaning.
     bytes: Vec<u8>,
     count: usize,
 }
@@ -27,7 +28,7 @@ impl Lines {
     ghost use Rattle.std.specs.Prelude.{◌≡◌, ◌<◌, ◌≤◌, ◌+◌, ◌*◌, ◌^◌, ◌++◌, [], OnOk, length};
     ghost use Rattle.hex.specs.Hex.{encode_lower};
 
-    /// No lines. It takes no memory yet.
+    /// No lines. Allocates nothing yet.
     pub(crate) fn new(alloc: Global) -> Lines
         ensures empty { result.text ≡ [] }
     {
@@ -37,14 +38,14 @@ impl Lines {
         }
     }
 
-    /// Gives the lines up, and keeps their room.
+    /// Removes the lines, and keeps their buffer.
     pub(crate) fn clear(&mut self)
         ensures empty { self.new.text ≡ [] }
     {
         self.count = 0;
     }
 
-    /// The text of the lines.
+    /// Returns the text of the lines.
     pub(crate) fn text(&self) -> &[u8]
         ensures value { result.now ≡ self.now.text }
     {
@@ -52,7 +53,7 @@ impl Lines {
     }
 
     #[inline(always)]
-    /// Takes room for so many bytes behind the text.
+    /// Reserves space for `more` bytes after the text.
     pub(crate) fn reserve(&mut self, more: usize) -> Result<(), AllocError>
         requires fits { more < 2 ^ 34 }
         ensures text { self.new.text ≡ self.old.text }
@@ -66,7 +67,7 @@ impl Lines {
 
     #[cold]
     #[inline(never)]
-    // The same, where there is no such room yet.
+    // Grows the buffer to this space.
     fn grow(&mut self, more: usize) -> Result<(), AllocError>
         requires fits { more < 2 ^ 34 }
         ensures text { self.new.text ≡ self.old.text }
@@ -76,7 +77,7 @@ impl Lines {
     }
 
     #[inline(always)]
-    /// Puts a piece behind the text.
+    /// Appends a piece.
     pub(crate) fn put(&mut self, piece: &[u8])
         requires room { length self.old.text + length piece.now ≤ self.old.room }
         ensures text { self.new.text ≡ self.old.text ++ piece.now }
@@ -88,7 +89,7 @@ impl Lines {
     }
 
     #[inline(always)]
-    /// Puts the digits of some bytes behind the text.
+    /// Appends the hex digits of some bytes.
     pub(crate) fn put_digits(&mut self, bytes: &[u8])
         requires room { length self.old.text + 2 * length bytes.now ≤ self.old.room }
         ensures text { self.new.text ≡ self.old.text ++ encode_lower bytes.now }

@@ -16,14 +16,14 @@ use rb_lend::{Lent, Sheet};
 use rb_tape::TapeWriter;
 use std::alloc::AllocError;
 
-// The number whose bytes these are, the lowest first.
+// Decodes a little-endian number.
 fn number_of(field: &[u8; 4]) -> u32
     ensures { to_le_bytes w32 result ≡ field.now }
 {
     u32::from_le_bytes(*field)
 }
 
-// Reads the length of the payload of this number, or finds that the input ends before it.
+// Reads the length of the payload with this number, or finds that the input ends before it.
 fn read_length<R: Incoming, W: Outgoing>(
     reader: &mut R,
     out: &W,
@@ -43,7 +43,7 @@ fn read_length<R: Incoming, W: Outgoing>(
     }
 }
 
-// The sheet as one of `len` bytes, whatever they are. One that has as many is left as it is.
+// Returns a sheet of `len` bytes with any contents: the given one if it has that length.
 fn sheet_of(spare: Sheet, len: u32) -> Result<Sheet, AllocError>
     ensures sized { IfOk result (λ sheet. length sheet ≡ len) }
 {
@@ -56,7 +56,7 @@ fn sheet_of(spare: Sheet, len: u32) -> Result<Sheet, AllocError>
     }
 }
 
-// Reads the payload of this number, its length and then its bytes, each until it is whole or the input ends.
+// Reads the payload with this number: its length and then its bytes, each until it is complete or the input ends.
 fn read_payload<R: Incoming, W: Outgoing>(
     reader: &mut R,
     out: &W,
@@ -86,7 +86,8 @@ fn read_payload<R: Incoming, W: Outgoing>(
 }
 
 #[inline]
-// The payload that stands whole at the front of these bytes, behind its length, where a ring of `size` bytes has room for its record.
+// Returns the payload at the front of these bytes, after its length, if it is complete and a ring of `size` bytes has
+// room for its record.
 fn whole_payload(seen: &[u8], size: u64) -> Option<&[u8]>
     ensures seen { IfSome result (λ payload. IsSeenWhole size seen.now payload.now) }
 {
@@ -99,7 +100,7 @@ fn whole_payload(seen: &[u8], size: u64) -> Option<&[u8]>
 }
 
 #[inline(always)]
-// The sheet with these bytes in place of its own, as many.
+// Returns the sheet with its bytes replaced by as many others.
 fn filled(sheet: Sheet, bytes: &[u8]) -> Sheet
     requires sized { length sheet ≡ length bytes.now }
     ensures filled { result ≡ bytes.now }
@@ -111,7 +112,7 @@ fn filled(sheet: Sheet, bytes: &[u8]) -> Sheet
 
 #[cold]
 #[inline(never)]
-// Has everything that was written go out, and then reads the payload of this number.
+// Flushes everything that was written, and then reads the payload with this number.
 fn awaited_payload<R: Incoming, W: Outgoing>(
     reader: &mut R,
     tape: &mut TapeWriter<W>,
@@ -133,7 +134,7 @@ fn awaited_payload<R: Incoming, W: Outgoing>(
 }
 
 #[inline(never)]
-// The same as `next_payload`, where the sheet has another length than the payload.
+// Does the same as `next_payload` if the sheet's length differs from the payload's.
 fn next_of_other_length<R: Incoming, W: Outgoing>(
     reader: &mut R,
     tape: &mut TapeWriter<W>,
@@ -161,11 +162,11 @@ fn next_of_other_length<R: Incoming, W: Outgoing>(
 }
 
 #[inline]
-/// Reads the payload of this number into the sheet, or finds that the input ends before it. A payload whose record is too long for a ring of
-/// `size` bytes is refused from its length alone.
+/// Reads the payload with this number into the sheet, or finds that the input ends before it. A payload whose record is
+/// too long for a ring of `size` bytes is refused from its length alone.
 ///
-/// A payload that is whole at hand is copied from there. Before it reads for any other, the tape's writer hands on all that waits in it; that fails
-/// only once no retries are left, with `Device`.
+/// A payload that is complete in the reader's buffer is copied from there. Before reading for any other, the tape's
+/// writer flushes everything that it holds back. The flush fails only when no retries are left, with `Device`.
 pub(crate) fn next_payload<R: Incoming, W: Outgoing>(
     reader: &mut R,
     tape: &mut TapeWriter<W>,

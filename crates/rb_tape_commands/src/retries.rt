@@ -1,4 +1,4 @@
-//! A record that is taken up again where a write failed.
+//! Resuming a record after a failed write.
 
 ghost use Rattle.std.specs.Prelude.{◌≡◌, ◌<◌, ◌≤◌, ◌+◌, [], None, Some, is_ok, if◌then◌else◌, take, OnOk, OnErr};
 ghost use Rattle.std.specs.Io.KnownBytes.{Appends, Keeps};
@@ -11,8 +11,8 @@ use rb_io::{DeviceFault, Outgoing};
 use rb_tape::{Item, TapeWriter};
 use std::io::Write;
 
-/// Writes the record as `TapeWriter::put` does, and has its rest written again after each write that failed, as long as there are
-/// `retries`; each one takes one away, and no more are made. An error comes only once none is left.
+/// Writes the record as `TapeWriter::put` does, and writes its rest again after each failed write, as long as `retries`
+/// last. Each retry uses one; no other writes are repeated. Returns an error only when none is left.
 pub(crate) fn put_with_retries<W: Write>(
     tape: &mut TapeWriter<W>,
     item: &Item<'_>,
@@ -44,8 +44,8 @@ pub(crate) fn put_with_retries<W: Write>(
     Err(DeviceFault)
 }
 
-/// Has the tape's writer hand on all that waits in it, again after each time that this failed, as long as there are `retries`; each failure takes one
-/// away. An error comes only once none is left.
+/// Makes the tape's writer flush, again after each failure, as long as `retries` last; each failure uses one. Returns
+/// an error only when none is left.
 pub(crate) fn write_tape_out<W: Outgoing>(
     tape: &mut TapeWriter<W>,
     retries: &mut u32,
@@ -66,7 +66,7 @@ pub(crate) fn write_tape_out<W: Outgoing>(
     Ok(())
 }
 
-/// Has the writer hand on all that waits in it, again after each time that this failed, `retries` times and no more.
+/// Makes the writer flush, again after each failure, up to `retries` times.
 pub(crate) fn write_out_with_retries<W: Outgoing>(
     writer: &mut W,
     retries: u32,

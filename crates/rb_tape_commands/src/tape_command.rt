@@ -1,4 +1,4 @@
-//! A tape in, a line for each of its records out.
+//! The command `tape`: reads a tape and prints a line for each of its records.
 
 ghost use Rattle.std.specs.Prelude.{◌≡◌, ◌≢◌, ◌↔◌, [], None, Err, IfSome, IsErrOf, OnOk};
 ghost use Rattle.std.specs.Io.KnownBytes.{IsAtEnd, Keeps};
@@ -16,17 +16,18 @@ use rb_json::LineForm;
 use rb_tape::Feed;
 use std::alloc::Global;
 
-/// How many bytes at hand are read at a time: a page.
+/// The number of bytes that are read from the buffer at a time: a page.
 const PIECE: usize = 4096;
 
-/// Reads a tape of a ring of `size` bytes whose first record stands at `start`, in pieces of at most 4,096 bytes, and prints a line for
-/// each record: `pos P len N HEX`, an empty payload as `-`, or `pos P len N discarded`, or the same as an object of JSON. The records are the longest list whose tape begins
-/// the input. `Record` where bytes are left behind them, with what is wrong there.
+/// Reads a tape of a ring of `size` bytes whose first record is at `start`, in pieces of at most 4,096 bytes, and
+/// prints a line for each record: `pos P len N HEX`, with an empty payload as `-`, or `pos P len N discarded`, or the
+/// same as a JSON object. The records are the longest list whose tape is a prefix of the input. If bytes are left after
+/// them, returns `Record` with what is wrong there.
 ///
-/// Nothing waits in the output whenever the input is read: the lines of all records that have come were handed on by then. `Incoming` demands it.
+/// Whenever the input is read, the lines of all records that have arrived were flushed before, as `Incoming` requires.
 ///
-/// `Size` and `Start` come before anything is read. Whatever is returned, the lines of the records before were printed and handed on, unless
-/// the output itself failed. The output is called once for each piece that was read.
+/// `Size` and `Start` are returned before anything is read. Whatever is returned, the lines of the records before were
+/// printed and flushed, unless the output itself failed. The output is called once for each piece that was read.
 pub fn tape<R: Incoming, W: Outgoing>(
     alloc: Global,
     input: &mut R,
@@ -55,7 +56,7 @@ pub fn tape<R: Incoming, W: Outgoing>(
     }
 }
 
-// Piece after piece, until the input ends or a record is refused.
+// Prints piece after piece, until the input ends or a record is refused.
 fn print_pieces<R: Incoming, W: Outgoing>(
     alloc: Global,
     feed: &mut Feed,
@@ -87,11 +88,12 @@ fn print_pieces<R: Incoming, W: Outgoing>(
         }
         gathered?;
     }
-    // No input has so many pieces.
+    // No input has this many pieces.
     Err(TapeRefusal::Device)
 }
 
-// Has everything that was printed go out and reads more of the input, where nothing is at hand. Nothing is at hand behind it if the input ended.
+// If the buffer is empty, flushes everything that was printed and reads more of the input. It stays empty only if the
+// input ended.
 fn await_more<R: Incoming, W: Outgoing>(input: &mut R, out: &mut W) -> Result<(), DeviceFault>
     ensures read { Keeps (R.remaining input.old) (R.remaining input.new) }
     ensures bytes { Keeps (W.contents out.old) (W.contents out.new) }

@@ -13,11 +13,11 @@ use rb_json::{LineForm, push_field, push_payload};
 use rb_tape::{Feed, Record};
 use std::alloc::{AllocError, Global};
 
-// What a line takes but for its hex digits, at most: its words, two numbers of 20 and 10 digits, and its end.
+// The maximum length of a line without its hex digits: its words, two numbers of 20 and 10 digits, and its end.
 const FRAME: usize = 64;
 
-/// Gathers the lines of the records that the reader has, so that they go out at once. What the list had before is given up. At an error it has
-/// the lines of the records before.
+/// Collects the lines of the records that the reader has, for one write, in place of what the list had before. On an
+/// error, the list has the lines of the records before it.
 pub(crate) fn gather_lines(
     alloc: Global,
     feed: &mut Feed,
@@ -32,7 +32,7 @@ pub(crate) fn gather_lines(
     Ok(())
 }
 
-// Adds the line of the next record that the reader has, and says whether there was one.
+// Appends the line of the next record that the reader has. Returns whether there was one.
 fn gather_next(
     alloc: Global,
     feed: &mut Feed,
@@ -55,7 +55,7 @@ fn gather_next(
     }
 }
 
-// Adds the line of a record in this form; nothing where there is no memory for it.
+// Appends the line of a record in this form, or nothing if it cannot be allocated.
 fn push_as(
     alloc: Global,
     lines: &mut Lines,
@@ -73,7 +73,7 @@ fn push_as(
     }
 }
 
-// The same in words.
+// Appends the line of a record in words.
 fn push_line(lines: &mut Lines, found: &Record<'_>) -> Result<(), AllocError>
     requires length { HasItsLength found.now }
     requires short { length found.now.bytes.now < 2 ^ 32 }
@@ -85,7 +85,7 @@ fn push_line(lines: &mut Lines, found: &Record<'_>) -> Result<(), AllocError>
     Ok(())
 }
 
-// The same as an object of JSON.
+// Appends the line of a record as a JSON object.
 fn push_object(alloc: Global, lines: &mut Lines, found: &Record<'_>) -> Result<(), AllocError>
     requires length { HasItsLength found.now }
     ensures line { OnOk result (lines.new.text ≡ lines.old.text ++ tape_object (item_read found.now)) }
@@ -117,7 +117,7 @@ fn object_of(alloc: Global, found: &Record<'_>) -> Result<Vec<u8>, AllocError>
     Ok(object)
 }
 
-// Puts the line of a record behind the lines.
+// Appends the line of a record, in space that was reserved.
 fn put_line(lines: &mut Lines, found: &Record<'_>)
     requires length { HasItsLength found.now }
     requires short { length found.now.bytes.now < 2 ^ 32 }
@@ -138,7 +138,7 @@ fn put_line(lines: &mut Lines, found: &Record<'_>)
     lines.put(b"\n");
 }
 
-// Adds the bytes in hex; `-` where there are none.
+// Appends the bytes in hex, or `-` if there are none.
 fn put_hex(lines: &mut Lines, bytes: &[u8])
     requires short { length bytes.now < 2 ^ 32 }
     requires room { length lines.old.text + (1 + 2 * length bytes.now) ≤ lines.old.room }

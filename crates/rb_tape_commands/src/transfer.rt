@@ -1,4 +1,4 @@
-//! One payload through the ring.
+//! Passing one payload through the ring.
 
 ghost use Rattle.std.specs.Prelude.{◌≡◌, ◌<◌, IfOk, IfErr, length};
 ghost use Rattle.rb_history.specs.Span.{span};
@@ -11,7 +11,8 @@ use rb_chapter_ring::{ReserveFault, RingState};
 use rb_history::Taken;
 use rb_lend::Sheet;
 
-/// Outputs the payload of this number to a ring in which every record was taken, and takes it: where it stood, and its bytes.
+/// Outputs the payload with this number to a ring in which every record was taken, and takes it. Returns its position
+/// and its bytes.
 pub(crate) fn transfer_payload(
     ring: &mut RingState,
     payload: Sheet,
@@ -29,7 +30,8 @@ pub(crate) fn transfer_payload(
     ring.facts();
     match ring.output(0, payload, 0) {
         Ok(_) => {}
-        // Where the chapter has room for a grant, it is the ring that has none, whether or not that could be logged.
+        // The chapter has room for a grant, so it is the ring that has none, whether or not the refusal could be
+        // logged.
         Err((ReserveFault::Full | ReserveFault::ChapterFull, _)) => {
             return Err(FeedFault::Fit(number));
         }

@@ -1,8 +1,9 @@
 //! A benchmark of the rings, of verification, of the interpreter and of whole jobs. `tools/bench` runs it.
 //!
-//! Without a word it makes one small run of each workload and prints what came of it, the same each time; with the word `time`, a workload's
-//! name and its numbers it runs that workload, and prints for each of three rounds its nanoseconds and how many records or jobs were refused;
-//! and with the word `payloads` it writes the input that `rbhost feed` is measured with.
+//! Without arguments it makes one small run of each workload and prints the results, which are the same each time. With
+//! the argument `time`, a workload's name and its numbers, it runs that workload, and prints for each of three rounds
+//! its nanoseconds and how many records or jobs were refused. With the argument `payloads` it writes the input for the
+//! measurement of `rbhost feed`.
 
 mod interpreting;
 mod jobs;
@@ -22,7 +23,7 @@ use std::thread::Threads;
 use std::time::Clock;
 use workload::Workload;
 
-/// Makes the runs that the words name.
+/// Makes the runs that the arguments name.
 pub(crate) fn run<R: Threads + Wait + Sync + Print + Clock, W: Write>(
     rt: &R,
     alloc: Global,

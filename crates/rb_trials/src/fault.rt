@@ -1,46 +1,46 @@
-//! Why a trial came to no end.
+//! Why a trial did not succeed.
 
 use std::alloc::{AllocError, AllocFailed};
 use std::io;
 use thiserror::Error;
 
-/// Why a trial came to no end.
+/// Why a trial did not succeed.
 #[derive(Clone, Copy, Debug, Error)]
 pub(crate) enum TrialFault {
-    /// The words are no trials.
+    /// The arguments name no trial.
     #[error("usage: rb_trials orders TAKES AFTER LAST STEPS HEX [STEPS HEX].. | soak WORKERS RINGS SIZE ROOM STEPS SEED | sweep ring|list|seats|shared|jobs | bench [time WORKLOAD [NUMBER [NUMBER]]|payloads] [-- ..]")]
     Usage,
-    /// A program is none, or is not accepted.
+    /// A program is invalid or not accepted.
     #[error("a program was refused")]
     Refused,
-    /// A ring can't be opened so, or there was no memory for it.
+    /// A ring can't be opened with these parameters, or its allocation failed.
     #[error("no such ring, or no memory for it")]
     Ring,
     /// A ring could not be closed with all its seats.
     #[error("a ring was not closed")]
     Open,
-    /// There was no memory.
+    /// An allocation failed.
     #[error("no memory")]
     Memory,
-    /// A ring with room gave no record, or did not hand it out.
+    /// A ring with room granted no record, or returned none.
     #[error("a record was lost")]
     Lost,
     /// The clock or the output failed.
     #[error("the clock or the output failed")]
     Device,
-    /// So many things were wrong.
+    /// This number of errors was found.
     #[error("wrong {0}")]
     Wrong(u64),
-    /// A call found no memory more than once.
+    /// An allocation of this call failed more than once.
     #[error("{0} found no memory twice")]
     Twice(&'static str),
-    /// A call answered something that is neither its success nor want of memory.
+    /// This call returned neither success nor a failed allocation.
     #[error("{0} answered otherwise")]
     Otherwise(&'static str),
 }
 
 impl TrialFault {
-    /// The exit status.
+    /// Returns the exit status.
     pub(crate) fn status(self) -> u8 {
         match self {
             TrialFault::Usage => 2,

@@ -7,7 +7,7 @@ use crate::fault::TrialFault;
 use rb_workers::{NullSink, Opened};
 use std::alloc::Global;
 
-/// A ring of so many workers alone, where there is memory for a list.
+/// Returns a list of one ring for `workers` workers, or an error if the list can't be allocated.
 pub(crate) fn listed(
     alloc: Global,
     workers: u32,

@@ -1,4 +1,4 @@
-//! Programs, verified.
+//! Verified programs.
 
 ghost use Rattle.std.specs.Prelude.{◌≤◌};
 
@@ -7,7 +7,7 @@ use rb_program::{Program, shape};
 use rb_verifier::{Verified, verify};
 use std::alloc::Global;
 
-/// The program, shaped and verified for a context of so many bytes and so many rings.
+/// Returns the program, shaped and verified for a context of `ctx_len` bytes and for `rings` rings.
 pub(crate) fn verified(
     alloc: Global,
     program: Program,

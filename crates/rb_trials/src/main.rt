@@ -1,8 +1,9 @@
-//! Trials of the library that no test holds: every order of turns (`orders`), real threads over several rings (`soak`), calls that find no
-//! memory (`sweep`), and a benchmark (`bench`). `tools/orders`, `tools/soak`, `tools/sweep` and `tools/bench` run one each.
+//! Trials of the library that are not tests: every order of turns (`orders`), real threads over several rings (`soak`),
+//! calls whose allocations fail (`sweep`), and a benchmark (`bench`). `tools/orders`, `tools/soak`, `tools/sweep` and
+//! `tools/bench` run one each.
 //!
-//! Its words are a trial's name and the words of that trial, and `--` between a trial and the next. The status is 0 where each went well, 2 for
-//! wrong words, and 1 otherwise; behind a trial that did not go well there is none.
+//! The arguments are a trial's name and the trial's arguments, with `--` between two trials. The exit status is 0 if
+//! each trial succeeded, 2 for wrong arguments, and 1 otherwise; after a trial that failed no other is run.
 #![tactic(auto)]
 
 mod bench;
@@ -69,7 +70,7 @@ fn run<R: Threads + Wait + Sync + Print + Eprint + Clock, W: Write>(
     }
 }
 
-// The words of the command line. Where they find no memory, they are read once more.
+// Returns the arguments of the command line. If an allocation fails, reads them once more.
 fn words(rt: &HostRuntime) -> Result<Vec<String>, TrialFault> {
     for _ in 0..sweep::TRIES {
         match read_words(rt) {
@@ -80,7 +81,7 @@ fn words(rt: &HostRuntime) -> Result<Vec<String>, TrialFault> {
     Err(TrialFault::Twice("words"))
 }
 
-// The words that follow the program's name.
+// Returns the arguments after the program's name.
 fn read_words(rt: &HostRuntime) -> io::Result<Vec<String>> {
     let mut given = env::args(rt)?;
     let _ = given.next();

@@ -1,11 +1,11 @@
-//! Numbers, as the words of a command line spell them.
+//! Numbers in arguments of the command line.
 
-/// A number of 64 bits, 0 where the word is none.
+/// Returns a number of 64 bits, or 0 if the argument is not one.
 pub(crate) fn number(word: &str) -> u64 {
     word.parse::<u64>().unwrap_or(0)
 }
 
-/// A number of 32 bits, 0 where the word is none.
+/// Returns a number of 32 bits, or 0 if the argument is not one.
 pub(crate) fn small(word: &str) -> u32 {
     word.parse::<u32>().unwrap_or(0)
 }

@@ -1,9 +1,10 @@
-//! Every order of the steps of some workers and of the takes of a consumer, over one ring in a world each, and where each order ended.
-//! `tools/orders` runs it, and compares each line with a plain ring of its own.
+//! Every order of the steps of some workers and of the takes of a consumer, over one ring in a separate world each, and
+//! the final state of each order. `tools/orders` runs it, and compares each line with its own model of a ring.
 //!
-//! Its words are TAKES AFTER LAST, and STEPS HEX for each worker. STEPS has the turns of each step of that worker, as 4,5,2, and HEX is its
-//! program. TAKES takes of the consumer stand among the steps in each order; AFTER takes follow each step, and LAST the last one. The
-//! orders come as words of a dictionary do, where the workers are letters, and the consumer the last one.
+//! The arguments are TAKES AFTER LAST, and STEPS HEX for each worker. STEPS has the number of turns of each step of
+//! that worker, for example 4,5,2, and HEX is its program. TAKES takes of the consumer are interleaved with the steps
+//! in each order; AFTER takes follow each step, and LAST takes the last one. The orders come in lexicographic order,
+//! where the workers are the letters, and the consumer is the last letter.
 
 mod end_line;
 mod order;

@@ -1,9 +1,10 @@
-//! Real threads over several shared rings at once: the workers of each ring output, reserve, submit and discard records by numbers that are
-//! drawn from a seed, and its consumer takes them by batches, turns the ring's chapters, and checks all that it takes. `tools/soak` runs it.
+//! Real threads over several shared rings at once: the workers of each ring output, reserve, submit and discard records
+//! by numbers drawn from a seed, and the ring's consumer takes them in batches, turns the ring's chapters, and checks
+//! everything that it takes. `tools/soak` runs it.
 //!
-//! Its words are WORKERS RINGS SIZE ROOM STEPS SEED: so many rings of SIZE bytes, each with chapters of ROOM entries and WORKERS workers of
-//! its own, of which each makes STEPS steps. On standard output it prints how many things were wrong, which is none; on standard error what
-//! the seats and the closed rings counted. It fails where something was wrong.
+//! The arguments are WORKERS RINGS SIZE ROOM STEPS SEED: RINGS rings of SIZE bytes, each with chapters of ROOM entries
+//! and with WORKERS workers, each of which makes STEPS steps. It prints the number of errors on stdout, which is 0, and
+//! what the seats and the closed rings counted on stderr. It fails if there was an error.
 
 mod bytes;
 mod consumer;
@@ -23,7 +24,7 @@ use std::sync::Wait;
 use std::thread::{Threads, map_indices};
 use sums::SoakSums;
 
-/// Runs all rings of a plan side by side, and prints what came of them.
+/// Runs all rings of a plan concurrently, and prints their results.
 pub(crate) fn run<R: Threads + Wait + Sync + Print + Eprint>(
     rt: &R,
     alloc: Global,
@@ -41,7 +42,7 @@ pub(crate) fn run<R: Threads + Wait + Sync + Print + Eprint>(
     Ok(())
 }
 
-// Runs all rings of a plan side by side, and adds up what came of them.
+// Runs all rings of a plan concurrently, and adds up their results.
 fn sums_of<R: Threads + Wait + Sync>(
     rt: &R,
     alloc: Global,
@@ -68,7 +69,7 @@ fn sum_of(rounds: &[Result<SoakSums, TrialFault>]) -> Result<SoakSums, TrialFaul
     Ok(sums)
 }
 
-// Prints what was counted, which depends on the schedule.
+// Prints the counts, which depend on the schedule.
 fn tell<R: Eprint>(rt: &R, sums: &SoakSums) {
     let SoakSums {
         made,

@@ -1,8 +1,10 @@
-//! Calls of the library that take memory, one after the other, each made once more where it answered that there is none. It prints what
-//! stands after each call. `tools/sweep` runs it with each request for memory refused in turn, and compares what is printed.
+//! Calls of the library that allocate, one after the other, each repeated once if it reports a failed allocation. It
+//! prints the state after each call. `tools/sweep` runs it with each allocation failing in turn, and compares the
+//! output.
 //!
-//! Its word says which calls: `ring`, `list`, `seats`, `shared` or `jobs`. A call that was carried out prints a line `CALL: STATE`, and
-//! one that found no memory a line `CALL memory: STATE`, with what stands then, or `CALL memory` where it was to make something new.
+//! The argument names the calls: `ring`, `list`, `seats`, `shared` or `jobs`. A call that succeeded prints a line
+//! `CALL: STATE`, and one whose allocation failed a line `CALL memory: STATE`, with the state after it, or
+//! `CALL memory` if it was to make something new.
 
 mod closed_rings;
 mod jobs;
@@ -22,7 +24,7 @@ use std::io::Print;
 use std::sync::Wait;
 use std::thread::Threads;
 
-/// Makes the calls that the word names.
+/// Makes the calls that the argument names.
 pub(crate) fn run<R: Threads + Wait + Sync + Print>(
     rt: &R,
     alloc: Global,

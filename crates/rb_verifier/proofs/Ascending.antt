@@ -1,11 +1,11 @@
--- The references stay in ascending order of their ids.
+-- References stay in ascending order of their ids.
 use Rattle.std.proofs.Common.{◌≡◌, ℕ, ◌+◌, ◌<◌, Bool, true, false, cond, refl, sym, subst, List, [], ◌∷◌, ◌++◌, filter, map, arith}
 use Rattle.std.specs.List.{AllByRecursion}
 use Rattle.std.specs.Prelude.{◌==◌, if◌then◌else◌}
 use Rattle.rb_verifier.specs.declared.references.Reference.{Reference}
 use Rattle.rb_verifier.specs.References.{IsAscending, AreEarlier, tested_in}
 
--- a test keeps the id
+-- marking a reference as tested keeps its id
 pub tested_in-id : (id : ℕ) (r : Reference) → (tested_in id r).id ≡ r.id
 tested_in-id id r = elim (r.id == id) as (λ b. (if b then record r { sure = true } else r).id ≡ r.id) [ true ↦ refl | false ↦ refl ]
 
@@ -45,6 +45,6 @@ pub ascending_added : (r : Reference) (rs : List Reference) → IsAscending rs �
 ascending_added r [] h k = (tt, tt)
 ascending_added r (q ∷ rs) h k = (ids_added (λ later. q.id < later) r rs h.0 k.0, ascending_added r rs h.1 k.1)
 
--- what was reserved before a unit was so before the next
+-- a reference reserved before a unit is reserved before the next unit, too
 pub earlier_next : (unit : ℕ) (rs : List Reference) → AreEarlier unit rs → AreEarlier (unit + 1) rs
 earlier_next unit rs h = ids_weaker (λ n. n < unit) (λ n. n < unit + 1) (λ n lt. omega arith) rs h

@@ -1,4 +1,4 @@
--- The checks of one value keep the order, and so do the values that instructions give.
+-- The checks on one value are monotone, and so are the abstract results of instructions.
 use Rattle.std.proofs.Common.{◌≡◌, ℕ, ℤ, refl, List, Result, Ok, Err, Option, Some, None}
 use Rattle.rb_insn.specs.declared.insn.Insn.{Insn}
 use Rattle.rb_verifier.specs.declared.arithmetic.Direction.{Direction}
@@ -17,7 +17,7 @@ use Rattle.rb_verifier.specs.AbstractArithmetic.{abstract_result, check_numbers,
 use Rattle.rb_verifier.specs.StepOrder.{ResultBelow}
 use Rattle.rb_verifier.proofs.Order.{below_value_refl, below_cases, number_cases}
 
--- answers
+-- ---- results
 
 result_refl : {A : Type 0} (R : A → A → Type 0) → ((x : A) → R x x) → (m : Result A Rule) → ResultBelow R m m
 result_refl R r (Ok x) = r x
@@ -28,14 +28,14 @@ result_bind R S m (Err e) f g h k = tt
 result_bind R S (Ok x) (Ok y) f g h k = k x y h
 result_bind R S (Err e) (Ok y) f g h k = absurd h
 
--- a check that holds above holds below
+-- a check that holds for the greater value holds for the smaller one
 abbrev pub CheckBelow : Check → Check → Type 0
 CheckBelow = ResultBelow (λ _ _. Unit {0})
 
 pub check_refl : (m : Check) → CheckBelow m m
 check_refl = result_refl (λ _ _. Unit {0}) (λ _. tt)
 
--- checks of one value
+-- ---- checks on one value
 
 pub readable_below : (v w : Abs) → BelowValue v w → CheckBelow (check_readable v) (check_readable w)
 readable_below =
@@ -80,7 +80,7 @@ record_size_below = below_cases (λ v w. Same (check_record_size v) (check_recor
 pub record_start_below : (v w : Abs) → BelowValue v w → Same (check_record_start v) (check_record_start w)
 record_start_below = below_cases (λ v w. Same (check_record_start v) (check_record_start w)) (λ v. tt) (λ v h. tt) (λ v. result_refl ◌≡◌ (λ x. refl) (check_record_start v))
 
--- arithmetic
+-- ---- arithmetic
 
 computed_number : (insn : Insn) (v w : Abs) → IsNumber (abstract_result insn v w)
 computed_number insn Unreadable w = tt
@@ -129,7 +129,7 @@ module _ (direction : Direction) (insn : Insn) where
   abbrev Sum : Abs → Abs → Result Abs Rule
   Sum = check_arithmetic (Some direction) insn
 
-  -- a pointer into a part, moved by what is known of an operand
+  -- a pointer into a part, moved by an abstract operand
   moved_pointer : (v : Abs) → (top : (w : Abs) → ValueBelow (Sum v w) (Sum v Unreadable)) → (check_number : (w : Abs) → ValueBelow (Sum v w) (Sum v Number)) → (w w' : Abs) → BelowValue w w' → ValueBelow (Sum v w) (Sum v w')
   moved_pointer v top check_number =
       below_cases (λ w w'. ValueBelow (Sum v w) (Sum v w')) top (λ w n. check_number w) (λ w. result_refl BelowValue below_value_refl (Sum v w))
@@ -156,7 +156,7 @@ pub combined_below : (direction : Option Direction) (insn : Insn) (v v' w w' : A
 combined_below None insn v v' w w' g h = on_numbers_below insn v v' w w' g h
 combined_below (Some direction) insn v v' w w' g h = combined_moving direction insn v v' w w' g h
 
--- changes of values
+-- ---- changes of values
 
 pub changed_below : (change : Change) (v w : Abs) → BelowValue v w → BelowValue (after_change change v) (after_change change w)
 changed_below (IsNull id) =

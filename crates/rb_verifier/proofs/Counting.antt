@@ -1,4 +1,4 @@
--- The CALL instructions are those that begin at the units.
+-- The CALL instructions of a program are those that begin at its units.
 use Rattle.std.proofs.Common.{◌≡◌, ℕ, zero, suc, ◌+◌, ◌-◌, Bool, cond, refl, sym, ◌∙◌, ap, List, [], ◌∷◌, ◌++◌, replicate, Option, Some, None, zero-add}
 use Rattle.std.proofs.lemmas.List.Sums.{sum_by-cons}
 use Rattle.std.specs.Prelude.{count_by}
@@ -7,11 +7,11 @@ use Rattle.rb_insn.specs.Units.{units_taken}
 use Rattle.rb_program.specs.Program.{units_of}
 use Rattle.rb_verifier.specs.Subject.{calls, is_call, call_count}
 
--- how many of a list pass a test, by its first element and the rest
+-- the number of elements that pass a test, from the first element and the rest
 pub count_by-cons : {X : Type 0} (p : X → Bool) (x : X) (xs : List X) → count_by p (x ∷ xs) ≡ cond (p x) 1 0 + count_by p xs
 count_by-cons p x xs = sum_by-cons (λ x. cond (p x) 1 0) x xs
 
--- nothing begins at the other units of an instruction
+-- the other units of an instruction contain no CALL
 passed_over : (n : ℕ) (slots : List (Option Insn)) → count_by calls (replicate n None ++ slots) ≡ count_by calls slots
 passed_over zero slots = refl
 passed_over (suc n) slots = count_by-cons calls None (replicate n None ++ slots) ∙ zero-add (count_by calls (replicate n None ++ slots)) ∙ passed_over n slots

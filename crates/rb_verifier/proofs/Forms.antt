@@ -35,11 +35,11 @@ use Rattle.rb_verifier.specs.VerifierChecks.{abstract_step, assignment_effect, c
 use Rattle.rb_insn.specs.Sizes.{byte_count, signed_byte_count}
 use Rattle.rb_verifier.proofs.Ascending.{ids_weaker, ids_tested, ids_filtered, ids_added, ascending_tested, ascending_filtered, ascending_added}
 
--- at entry no reference is held
+-- at entry, no reference is held
 pub form_entry : (unit : ℕ) → IsFormed unit entry_state
 form_entry unit = record { count = refl; few = omega arith; ascending = tt; earlier = tt }
 
--- the form tells of the references and of the number of values alone
+-- the form depends only on the references and on the number of values
 pub form_below : {unit : ℕ} {s t : AbsState} → Below s t → IsFormed unit s → IsFormed unit t
 form_below {unit} {s} {t} b h = record {
   count = sym b.count ∙ h.count;
@@ -68,7 +68,7 @@ form_put s r v h = record { count = length-set s.values r v ∙ h.count; few = h
 form_answered : {unit : ℕ} (v : Abs) (s : AbsState) → IsFormed unit s → IsFormed unit (after_answer v s)
 form_answered v s h = form_put _ 5 Unreadable (form_put _ 4 Unreadable (form_put _ 3 Unreadable (form_put _ 2 Unreadable (form_put _ 1 Unreadable (form_put s 0 v h)))))
 
--- each value is changed, and a reference goes
+-- changing each value and dropping a reference keeps the form
 form_without : {unit : ℕ} (f : Abs → Abs) (id : ℕ) (places : List Abs) (s : AbsState) → IsFormed unit s → IsFormed unit (record { values = map f s.values; held = filter (other_than id) s.held; places = places })
 form_without {unit} f id places s h = record {
   count = length-map s.values f ∙ h.count;
@@ -77,7 +77,7 @@ form_without {unit} f id places s h = record {
   earlier = ids_filtered (λ n. n < unit) (other_than id) s.held h.earlier;
 }
 
--- each value is changed, and a reference is tested
+-- changing each value and marking a reference as tested keeps the form
 form_tested : {unit : ℕ} (f : Abs → Abs) (id : ℕ) (places : List Abs) (s : AbsState) → IsFormed unit s → IsFormed unit (record { values = map f s.values; held = map (tested_in id) s.held; places = places })
 form_tested {unit} f id places s h = record {
   count = length-map s.values f ∙ h.count;
@@ -86,7 +86,7 @@ form_tested {unit} f id places s h = record {
   earlier = ids_tested (λ n. n < unit) id s.held h.earlier;
 }
 
--- a reference to a record that was reserved at the unit
+-- adding a reference to a record that was reserved at the unit keeps the form
 form_reserved : (unit ring size : ℕ) (s : AbsState) → is_full s.held ≡ false → IsFormed unit s → IsFormed (unit + 1) (after_reserve unit ring size s)
 form_reserved unit ring size s room h =
     form_answered (Perhaps unit) _ (record {
@@ -99,13 +99,13 @@ form_reserved unit ring size s room h =
     new : Reference
     new = record { id = unit; ring = ring; size = size; sure = false }
 
--- a fact of the effect, where an instruction has one
+-- if an instruction has an effect, the property holds for it
 abbrev Gives : (Effect → Type 0) → Result Effect Rule → Type 0
 Gives P (Ok e) = P e
 Gives P (Err broken) = Unit {0}
 
 module _ (P : Effect → Type 0) where
-  -- past a check
+  -- continues after a check that passed
   past : {A : Type 0} (m : Result A Rule) (f : A → Result Effect Rule) → ((x : A) → Gives P (f x)) → Gives P (m >>= f)
   past (Ok x) f k = k x
   past (Err broken) f k = tt
@@ -145,7 +145,7 @@ module _ (limits : Limits) (unit : ℕ) (s : AbsState) (h : IsFormed unit s) whe
   both_given_back : (id : ℕ) → BothFormed (unit + 1) (effect_on_both (after_answer Unreadable (given_back_state id s)))
   both_given_back id = let k : IsFormed (unit + 1) (after_answer Unreadable (given_back_state id s)) = form_answered Unreadable (given_back_state id s) (form_without _ id _ s kept) in (k, k)
 
-  -- what is known of an argument
+  -- the abstract value of an argument
   abbrev arg : ℕ → Abs
   arg r = value_in s r
 

@@ -1,4 +1,4 @@
--- The checks of what is kept on the stack keep the order.
+-- The checks on pointers spilled to the stack are monotone.
 use Rattle.std.proofs.Common.{◌≡◌, ℕ, zero, suc, ◌+◌, Bool, true, false, refl, ⊎_elim, List, Option, Some, None, Result}
 use Rattle.std.specs.Prelude.{◌==◌, ◌&&◌, ◌||◌, not, if◌then◌else◌}
 use Rattle.std.proofs.lemmas.Bool.{cases_lt}
@@ -22,7 +22,7 @@ PlacesBelow f g = (place : ℕ) → BelowValue (f place) (g place)
 data_number : (v : Abs) → IsNumber v → is_data v ≡ true
 data_number = number_cases (λ v. is_data v ≡ true) refl (λ n. refl)
 
--- what is data above is so below
+-- what is data in the greater value is data in the smaller one
 kept_below : (b : Bool) (v w : Abs) → BelowValue v w → (b && not (is_data w)) ≡ false → (b && not (is_data v)) ≡ false
 kept_below false v w h e = refl
 kept_below true v w h e =
@@ -60,14 +60,14 @@ module _ (f g : KnownPlaces) (h : PlacesBelow f g) where
   data_placed at len place =
       elim (touches at len place) as (λ b. BelowValue (if b then Number else f place) (if b then Number else g place)) [ true ↦ tt | false ↦ h place ]
 
--- lists of the places, of which each is below
+-- lists of places are ordered if each place is
 pub listed_below : (f g : KnownPlaces) → PlacesBelow f g → PlacesBelow (known_in (listed_places f)) (known_in (listed_places g))
 listed_below f g h place = ⊎_elim (λ lt. rw (known-listed f place lt, known-listed g place lt) (h place)) (λ le. rw (known-past f place le, known-past g place le) tt) (cases_lt place 64)
 
 abbrev pub ListsBelow : List Abs → List Abs → Type 0
 ListsBelow xs ys = PlacesBelow (known_in xs) (known_in ys)
 
--- one place keeps the same
+-- setting the same place to the same value keeps the order
 kept_placed : (f g : KnownPlaces) → PlacesBelow f g → (place : ℕ) (v : Abs) → PlacesBelow (with_place place v f) (with_place place v g)
 kept_placed f g h place v other = elim (other == place) as (λ b. BelowValue (if b then v else f other) (if b then v else g other)) [ true ↦ below_value_refl v | false ↦ h other ]
 

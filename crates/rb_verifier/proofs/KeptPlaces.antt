@@ -1,4 +1,4 @@
--- What is known of the places of the stack, as a list of them and as code keeps it.
+-- The places of the stack, as a list of 64 and in the form that code stores.
 use Rattle.std.proofs.Common.{◌≡◌, ◌≢◌, ℕ, zero, suc, ◌+◌, ◌-◌, ◌<◌, ◌≤◌, Bool, true, false, eqb, List, [], ◌∷◌, ◌++◌, length, get_or, refl, sym, ◌∙◌, ap, subst, arith, below_more, ⊎_elim}
 use Rattle.std.specs.Prelude.{◌&&◌, ◌||◌, ◌↔◌, nat_le, not, if◌then◌else◌, IsTrue}
 use Rattle.std.proofs.lemmas.Bool.{cases_lt, eq-eqb}
@@ -16,7 +16,7 @@ use Rattle.rb_verifier.specs.inner.ChangedValues.{place_after}
 use Rattle.rb_verifier.specs.inner.KeptList.{from_last}
 use Rattle.rb_verifier.specs.inner.ValueJoins.{IsJoinValue}
 
--- ---- the list of the places
+-- ---- the list of 64 places
 
 pub known-listed : (f : KnownPlaces) (place : ℕ) → place < 64 → known_in (listed_places f) place ≡ f place
 known-listed f place lt = get_or-map-range_with_len f 0 64 place place Number lt (omega arith)
@@ -24,11 +24,11 @@ known-listed f place lt = get_or-map-range_with_len f 0 64 place place Number lt
 pub known-past : (f : KnownPlaces) (place : ℕ) → 64 ≤ place → known_in (listed_places f) place ≡ Number
 known-past f place le = get_or_past (listed_places f) place Number (let n : length (listed_places f) ≡ 64 = length-map-range_with_len f 0 64 in omega arith)
 
--- the places that two list are the same where those say the same
+-- lists of places are equal if they have the same value at each of the 64 places
 pub listed_same : (f g : KnownPlaces) → ((place : ℕ) → place < 64 → f place ≡ g place) → listed_places f ≡ listed_places g
 listed_same f g h = fill_by_all g (listed_places f) 64 Number (length-map-range_with_len f 0 64) (λ k lt. known-listed f k lt ∙ h k lt)
 
--- ---- the list that code keeps
+-- ---- the list that code stores
 
 from-in : (xs : List Abs) (place : ℕ) → place ≤ 63 → from_last xs place ≡ get_or xs (63 - place) Number
 from-in xs place le = let t : nat_le place 63 ≡ true = grind (arith, nat_tests) in rw t refl
@@ -39,7 +39,7 @@ from-past xs place lt = let t : nat_le place 63 ≡ false = grind (arith, nat_te
 pub known-from_last : (xs : List Abs) (place : ℕ) → known_in (listed_places (from_last xs)) place ≡ from_last xs place
 known-from_last xs place = ⊎_elim (λ lt. known-listed (from_last xs) place lt) (λ le. known-past (from_last xs) place le ∙ sym (from-past xs place (omega arith))) (cases_lt place 64)
 
--- a place that is listed, one that is not, and one that is none
+-- a place that is listed, one that is not, and a number that is no place
 pub known_there : (xs : List Abs) (place : ℕ) → place ≤ 63 → known_in (listed_places (from_last xs)) place ≡ get_or xs (63 - place) Number
 known_there xs place le = known-from_last xs place ∙ from-in xs place le
 
@@ -65,7 +65,7 @@ one-pointer xs i lt few other e =
     let back : 63 - (63 - i) ≡ i = omega arith in
     other (ap (λ k. get_or xs k Number) (sym back) ∙ (sym (known_there xs (63 - i) (omega arith)) ∙ known-data (listed_places (from_last xs)) e (63 - i)))
 
--- a place that keeps a pointer
+-- places of which one holds a pointer are not all data
 pub keeps-pointer : (place : ℕ) (v : Abs) (f : KnownPlaces) → place ≤ 63 → is_data v ≡ false → listed_places (with_place place v f) ≡ all_data → ⊥
 keeps-pointer place v f le pointer e =
     let kept : with_place place v f place ≡ v = rw (eq-eqb place place refl) refl in
@@ -75,7 +75,7 @@ keeps-pointer place v f le pointer e =
 
 -- ---- a list that is built from the last place down
 
--- the first elements say so of their places
+-- the property holds for the elements so far, each with its place
 abbrev pub AreBuilt : (ℕ → Abs → Type 0) → List Abs → ℕ → Type 0
 AreBuilt P zs n = (i : ℕ) → i < n → P (63 - i) (get_or zs i Number)
 
@@ -86,7 +86,7 @@ built_more P zs i x count h here =
     (λ j lt. subst (P (63 - j)) (sym (get_or_append_left zs (x ∷ []) Number j (omega arith))) (h j lt))
     (subst (P (63 - i)) (sym last) here)
 
--- and so does each place
+-- the property then holds for each place
 pub built_all : (P : ℕ → Abs → Type 0) (zs : List Abs) (n : ℕ) → length zs ≡ n → AreBuilt P zs n → ((place : ℕ) → place ≤ 63 → n + place ≤ 63 → P place Number) → (place : ℕ) → place ≤ 63 → P place (from_last zs place)
 built_all P zs n count h rest place le =
     subst (P place) (sym (from-in zs place le)) (⊎_elim
@@ -97,14 +97,15 @@ built_all P zs n count h rest place le =
 pub built_list : (g : KnownPlaces) (zs : List Abs) (n : ℕ) → length zs ≡ n → AreBuilt (λ place x. x ≡ g place) zs n → ((place : ℕ) → place ≤ 63 → n + place ≤ 63 → g place ≡ Number) → listed_places (from_last zs) ≡ listed_places g
 built_list g zs n count h rest = listed_same (from_last zs) g (λ place lt. built_all (λ place x. x ≡ g place) zs n count h (λ place le past. sym (rest place le past)) place (omega arith))
 
--- what holds of the first places, from the last one down, of those that have data, and past the last one, holds of each
+-- a property holds for each place if it holds for the first `n` places from the last one down, for the other places,
+-- which have data, and for numbers above the last place
 pub each_place : (P : ℕ → Type 0) (n : ℕ) → ((i : ℕ) → i < n → P (63 - i)) → ((place : ℕ) → n + place ≤ 63 → P place) → ((place : ℕ) → 63 < place → P place) → (place : ℕ) → P place
 each_place P n here rest past place =
     ⊎_elim
     (λ lt. ⊎_elim (λ inside. let back : 63 - (63 - place) ≡ place = omega arith in subst P back (here (63 - place) inside)) (λ ge. rest place (omega arith)) (cases_lt (63 - place) n))
     (λ le. past place (omega arith)) (cases_lt place 64)
 
--- ---- what each change says of a place with data
+-- ---- the effect of each change on a place with data
 
 not_same : (m n : ℕ) → m ≢ n → eqb m n ≡ false
 not_same m n ne = grind (arith, nat_tests)
@@ -145,11 +146,11 @@ and_false : (b : Bool) → (b && false) ≡ false
 and_false true = refl
 and_false false = refl
 
--- a place with data keeps nothing
+-- a place with data holds no pointer
 pub not_kept : (b : Bool) (v : Abs) → v ≡ Number → (b && not (is_data v)) ≡ false
 not_kept b v e = ap (λ v. b && not (is_data v)) e ∙ and_false b
 
--- the test of a number
+-- the result of the test for a number
 pub data_tested : (b : Bool) (v : Abs) → (IsTrue b ↔ IsNumber v) → b ≡ is_data v
 data_tested true Number h = refl
 data_tested true (Known n) h = refl

@@ -1,4 +1,4 @@
--- The laws on the table that a verifier and an interpreter of verified programs rest on.
+-- Laws of the abstract step for the verifier, and for an interpreter of verified programs.
 use Rattle.std.proofs.Common.{◌≡◌, refl, Result, Ok, Err}
 use Rattle.rb_verifier.specs.declared.rule.Rule.{Rule}
 use Rattle.rb_verifier.specs.ValueChecks.{◌>>=◌}
@@ -7,7 +7,7 @@ pub use Rattle.rb_verifier.proofs.KeptPlaces.{known-listed, known-past}
 pub use Rattle.rb_verifier.proofs.StepOrder.{step_below}
 pub use Rattle.rb_verifier.proofs.Forms.{form_entry, form_below, form_later, step_forms}
 
--- where a check is followed by others and all hold, it holds, and so do they
+-- if a check followed by others passes, the check passes, and so do the others
 pub record BothHold {A B : Type 0} (m : Result A Rule) (f : A → Result B Rule) (y : B) : Type 0 where
   pub value : A
   pub first : m ≡ Ok value

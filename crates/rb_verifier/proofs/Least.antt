@@ -1,4 +1,5 @@
--- Whatever arrives under the least annotation lies below every valid one; so a refusal excludes them all.
+-- Every state that arrives under the least annotation lies below the state of every valid one; so a refusal rules out
+-- all annotations.
 use Rattle.std.proofs.Common.{◌≡◌, ⊎_elim, ℕ, ◌<◌, ◌≤◌, refl, sym, ◌∙◌, subst, List, Result, Ok, Err, Some, arith}
 use Rattle.std.proofs.lemmas.Bool.{cases_lt}
 use Rattle.rb_insn.specs.declared.insn.Insn.{Insn}
@@ -15,7 +16,7 @@ use Rattle.rb_verifier.specs.StepOrder.{ResultBelow}
 use Rattle.rb_verifier.proofs.Laws.{below_trans, step_below}
 use Rattle.rb_verifier.specs.Annotation.{Annotation, along_edge, HoldsAt, IsValidBefore, IsLeastBefore, Arrives, at_entry, by_edge, IsLeastAbove, HaveDifferent, HasNoValid}
 
--- along each edge the order is kept
+-- the states along each edge keep the order
 along_below : (along : Edge) {e f : Effect} → EffectBelow e f → Below (along_edge along e) (along_edge along f)
 along_below Next h = h.next
 along_below Target h = h.jump
@@ -29,7 +30,7 @@ no_refusal_below {m} {n} {r} {f} p q h =
     subst (λ x. ResultBelow EffectBelow (Err r) x) q (subst (λ x. ResultBelow EffectBelow x n) p h)
 
 module _ {limits : Limits} {p : List Insn} where
-  -- what is valid before a unit is valid before each lower one
+  -- an annotation that is valid below a bound is valid below each lower bound
   pub valid_weaken : {a : Annotation} {v : ℕ} (u : ℕ) → u ≤ v → IsValidBefore limits p a v → IsValidBefore limits p a u
   valid_weaken {a} {v} u le h = record {
     entry = λ k. h.entry (omega arith);
@@ -38,7 +39,7 @@ module _ {limits : Limits} {p : List Insn} where
         record { effect = at_v.effect; checks = at_v.checks; edges = λ along to e k. at_v.edges along to e (omega arith) };
   }
 
-  -- whatever arrives at a unit is below the state there of each annotation that is valid up to it
+  -- a state that arrives at a unit is below the state there of each annotation that is valid up to it
   pub arrives_below : {a b : Annotation} {u w t : ℕ} {s : AbsState} → IsLeastBefore limits p a u → IsValidBefore limits p b w → u ≤ t → t < w → Arrives limits p a u t s → Below s (b t)
   arrives_below {a} {b} {u} {w} {t} {s} l h ut tw (at_entry z e) =
       subst (λ x. Below x (b t)) (sym e) (subst (λ x. Below entry_state (b x)) (sym z) (h.entry (omega arith)))
@@ -48,20 +49,20 @@ module _ {limits : Limits} {p : List Insn} where
       let effects : EffectBelow e there.effect = effects_below checks there.checks (step_below limits from i (a from) (b from) below_from) in
       subst (λ x. Below x (b t)) (sym is) (below_trans (along_below along effects) (there.edges along t to tw))
 
-  -- where two states with different references arrive, no annotation is valid
+  -- if two states with different references arrive, no annotation is valid
   pub no_valid_differ : {a : Annotation} {u : ℕ} → IsLeastBefore limits p a u → u < unit_count p → HaveDifferent (Arrives limits p a u u) → HasNoValid limits p
   no_valid_differ {a} {u} l lt d b valid =
       let one : Below d.one (b u) = arrives_below l valid (omega arith) lt d.one_is in
       let other : Below d.other (b u) = arrives_below l valid (omega arith) lt d.other_is in
       d.differ (one.held ∙ sym other.held)
 
-  -- where a check fails at the least state, no annotation is valid
+  -- if a check fails at the least state, no annotation is valid
   pub no_valid_check : {a : Annotation} {u : ℕ} {s : AbsState} {i : Insn} {r : Rule} → IsLeastBefore limits p a u → u < unit_count p → IsLeastAbove (Arrives limits p a u u) s → slot_at p u ≡ Some i → abstract_step limits u i s ≡ Err r → HasNoValid limits p
   no_valid_check {a} {u} {s} {i} {r} l lt above at e b valid =
       let below : Below s (b u) = above.least (b u) (λ x k. arrives_below l valid (omega arith) lt k) in
       no_refusal_below e (valid.each u i lt at).checks (step_below limits u i s (b u) below)
 
-  -- something arrives at each instruction
+  -- some state arrives at each instruction
   pub something_arrives : {a : Annotation} {u : ℕ} → EachIsEntered p → IsLeastBefore limits p a u → (i : Insn) → slot_at p u ≡ Some i → (s : AbsState) × Arrives limits p a u u s
   something_arrives {a} {u} entered l i at = ⊎_elim later first (cases_lt 0 u)
     where

@@ -1,4 +1,4 @@
--- What is noted of the states that arrive, as one more flows to a unit.
+-- Merging one more state into the arrivals at a unit.
 use Rattle.std.proofs.Common.{◌≡◌, ◌≢◌, ◌⊎◌, inl, inr, ⊎_elim, ℕ, refl, sym, ◌∙◌, ap, subst, List, Option, Some, None}
 use Rattle.std.proofs.lemmas.Bool.{cases_eq}
 use Rattle.rb_verifier.specs.declared.state.AbsState.{AbsState}
@@ -9,7 +9,7 @@ use Rattle.rb_verifier.specs.declared.arrivals.Arrival.{Arrival}
 use Rattle.rb_verifier.specs.declared.arrivals.Arrival.TheVariants.{Nothing, Least, Differ}
 use Rattle.rb_verifier.specs.inner.Sweep.{noted_at, IsArrivalOf, IsFormedAt, IsMerged, Flows}
 
--- what is noted tells of the states alone
+-- the arrival depends only on the set of states
 pub noted_iff : {A B : AbsState → Type 0} → ((x : AbsState) → A x → B x) → ((x : AbsState) → B x → A x) → (arrival : Arrival) → IsArrivalOf A arrival → IsArrivalOf B arrival
 noted_iff f g Nothing h = λ s b. h s (g s b)
 noted_iff f g (Least s) h = record {
@@ -19,7 +19,7 @@ noted_iff f g (Least s) h = record {
 }
 noted_iff f g Differ h = record { one = h.one; other = h.other; one_is = f h.one h.one_is; other_is = f h.other h.other_is; differ = h.differ }
 
--- some states and one more
+-- a set with one more state
 abbrev And : (AbsState → Type 0) → AbsState → AbsState → Type 0
 And A s x = A x ⊎ (x ≡ s)
 
@@ -61,7 +61,7 @@ option_cases : (o : Option ℕ) (t : ℕ) → (o ≡ Some t) ⊎ (o ≢ Some t)
 option_cases None t = inr (λ e. cc)
 option_cases (Some u) t = ⊎_elim (λ e. inl (ap Some e)) (λ ne. inr (λ e. ne (cc))) (cases_eq u t)
 
--- some states and, at the target, one more
+-- a set with one more state if the unit is the target
 abbrev pub AndIf : (AbsState → Type 0) → Option ℕ → ℕ → AbsState → AbsState → Type 0
 AndIf A target t s x = A x ⊎ ((target ≡ Some t) × (x ≡ s))
 

@@ -1,4 +1,4 @@
--- The numbers of the code and those of the definitions are the same.
+-- The numbers in the code and those in the definitions agree.
 use Rattle.std.proofs.Common.{◌≡◌, ℕ, ◌+◌, ◌^◌, ◌<◌, ◌≤◌, Bool, true, false, refl, sym, ◌∙◌, ap, arith, eqb-true}
 use Rattle.std.specs.Prelude.{Option, Some, None, Result, Ok, Err, MatchOption, if◌then◌else◌, ℤ, pos, negsuc, ◌-ℤ◌, ◌+ℤ◌, ◌≤ℤ◌, ◌==◌, ◌/◌, ◌%◌, ◌&&◌, int_le, nat_le, nat_abs, FitsSigned}
 use Rattle.std.specs.Option.{SomeIff}
@@ -21,7 +21,7 @@ unfolding wrapped
 wrapped-immediate (pos n) fits = let small : n < 2 ^ 31 = fits.sfits in omega arith
 wrapped-immediate (negsuc n) fits = let small : n < 2 ^ 31 = fits.sfits in omega arith
 
--- how far it is from an offset to an end that lies behind it
+-- the distance from an offset to an end after it fits 64 bits
 gap_fits : (end from : ℤ) → negsuc 511 ≤ℤ from → from ≤ℤ end → end ≤ℤ pos (2 ^ 32) → FitsSigned w64 (end -ℤ from)
 gap_fits end from low between high = record { sfits = grind (arith, ints) }
 
@@ -29,7 +29,7 @@ pub cast-gap : (end from : ℤ) → FitsSigned w64 end → FitsSigned w64 from �
 cast-gap end from f g low between high =
     rw (to_z-of_z w64 end f, to_z-of_z w64 from g) (to_z-of_z w64 (end -ℤ from) (gap_fits end from low between high))
 
--- a range of bytes that begins in an extent lies in it where the extent has so many bytes more
+-- a range that begins in an extent lies in it if the extent has at least that many more bytes
 pub contains-from : (first end from : ℤ) (len : ℕ) → first ≤ℤ from → from ≤ℤ end → nat_le len (nat_abs (end -ℤ from)) ≡ (int_le first from && int_le (from +ℤ pos len) end)
 contains-from first end from len h k = grind (arith, ints, nat_tests)
 
@@ -44,12 +44,12 @@ far z outside = decided (is_near z) refl
     decided true e = absurd (outside (fits_near z e))
     decided false e = refl
 
--- a checked sum that is tested against the bounds
+-- a checked sum, tested against the bounds
 pub near_checked : (o : Option ℤ) (z : ℤ) (r : Result ℤ Rule) → SomeIff o (FitsSigned w64 z) z → MatchOption o (r ≡ Err rule.PointerArithmetic) (λ offset. r ≡ check_near offset) → r ≡ check_near z
 near_checked None z r h k = k ∙ sym (far z h)
 near_checked (Some x) z r h k = k ∙ ap check_near h.1
 
--- a range that lies on the stack begins at one of its bytes, or at its end
+-- a range that lies on the stack begins at one of its bytes or at its end
 pub on_stack : (z : ℤ) (len : ℕ) → contains_range stack_extent z len ≡ true → (negsuc 511 ≤ℤ z) × ((z +ℤ pos len) ≤ℤ pos 0)
 on_stack z len h = (grind (arith, ints, nat_tests), grind (arith, ints, nat_tests))
 
@@ -60,7 +60,7 @@ byte_on_stack z len h = of_sum (z +ℤ pos 512) refl
     of_sum (pos n) e = (refl, grind (arith, ints, nat_tests))
     of_sum (negsuc n) e = absurd (grind (arith, ints, nat_tests))
 
--- a place that has bytes of the stack is one of the 64
+-- a place that has exactly a range of bytes of the stack is one of the 64
 pub whole_inside : (at len : ℕ) → at + len ≤ 512 → IsPlaceOrNone (whole_place at len)
 whole_inside at len h = of_length (len == 8) refl
   where

@@ -1,4 +1,4 @@
--- What is known is ordered, of values and of states.
+-- The order of abstract values and of abstract states.
 use Rattle.std.proofs.Common.{ℕ, refl, sym, ◌∙◌, subst}
 use Rattle.rb_verifier.specs.declared.value.Abs.{Abs}
 use Rattle.rb_verifier.specs.declared.value.Abs.TheVariants.{Unreadable, Number, Known, Ctx, Stack, Ring, Perhaps, Record}
@@ -17,8 +17,8 @@ below_value_refl (Ring n) = refl
 below_value_refl (Perhaps n) = refl
 below_value_refl (Record n o) = refl
 
--- what holds where the upper value is unreadable, where it is a number, and where both are one, holds of a value
--- below another
+-- a property of a value below another holds if it holds when the upper one is Unreadable, when it is Number, and when
+-- both are equal
 pub below_cases : (P : Abs → Abs → Type 0) → ((v : Abs) → P v Unreadable) → ((v : Abs) → IsNumber v → P v Number) → ((v : Abs) → P v v) → (v w : Abs) → BelowValue v w → P v w
 below_cases P top number same v Unreadable h = top v
 below_cases P top number same v Number h = number v h
@@ -29,7 +29,7 @@ below_cases P top number same v (Ring n) h = subst (λ x. P x (Ring n)) (sym h) 
 below_cases P top number same v (Perhaps n) h = subst (λ x. P x (Perhaps n)) (sym h) (same (Perhaps n))
 below_cases P top number same v (Record n o) h = subst (λ x. P x (Record n o)) (sym h) (same (Record n o))
 
--- what holds of a number that is not known, and of each known one, holds of a number
+-- a property of numbers holds if it holds for an unknown number and for each known one
 pub number_cases : (P : Abs → Type 0) → P Number → ((n : ℕ) → P (Known n)) → (v : Abs) → IsNumber v → P v
 number_cases P number known Unreadable h = absurd h
 number_cases P number known Number h = number

@@ -1,4 +1,4 @@
--- The progress of the pass, from its start to its end or to a refusal.
+-- The progress of the verifier's pass, from its start to its end or to a refusal.
 use Rattle.std.proofs.Common.{◌≡◌, ⊎_elim, ℕ, ◌+◌, ◌<◌, refl, sym, ◌∙◌, ap, subst, List, [], ◌∷◌, length, Ok, Err, Some, None, arith, length-append}
 use Rattle.std.proofs.lemmas.Bool.{cases_eq, cases_lt}
 use Rattle.std.proofs.lemmas.List.{get_or_past}
@@ -24,11 +24,11 @@ use Rattle.rb_verifier.proofs.Least.{no_valid_differ, no_valid_check, something_
 use Rattle.rb_verifier.proofs.Noting.{noted_iff, formed_flows}
 use Rattle.rb_verifier.proofs.Turning.{more, least_more, noted_more, least_passed, passed_arrives, arrives_passed}
 
--- past the end no instruction begins
+-- no instruction begins past the end
 inside_program : (p : List Insn) (u : ℕ) (i : Insn) → slot_at p u ≡ Some i → u < unit_count p
 inside_program p u i at = ⊎_elim (λ lt. lt) (λ le. let e : None ≡ Some i = sym (get_or_past (units_of p) u None le) ∙ at in cc) (cases_lt u (unit_count p))
 
--- before the first turn
+-- before the first step, nothing has arrived from earlier units
 not_below_zero : {limits : Limits} {p : List Insn} {a : Annotation} {t : ℕ} {s : AbsState} → 0 < t → Arrives limits p a 0 t s → ⊥
 not_below_zero pos (at_entry z is) = omega arith
 not_below_zero pos (by_edge from i e along lt at checks leads_to is) = omega arith
@@ -69,7 +69,7 @@ pub valid_end : {limits : Limits} {p : List Insn} {states : List AbsState} {arri
 valid_end {limits} {p} {states} {arrivals} {u} h e = subst (IsValidBefore limits p (state_at states)) e h.least.valid
 
 module _ {limits : Limits} {p : List Insn} {states : List AbsState} {arrivals : List Arrival} {u : ℕ} (h : Progress limits p states arrivals u) where
-  -- a state that was noted here has the form of a state before the unit
+  -- the state that has arrived at this unit has the form of a state before it
   pub formed_here : (s : AbsState) → noted_at arrivals u ≡ Least s → IsFormed u s
   formed_here s is = subst (IsFormedAt u) is (h.formed u (omega arith))
 
@@ -91,11 +91,11 @@ module _ {limits : Limits} {p : List Insn} {states : List AbsState} {arrivals : 
   }
 
   module _ (lt : u < unit_count p) where
-    -- what arrives here
+    -- the states that arrive at this unit
     abbrev Here : AbsState → Type 0
     Here = Arrives limits p (state_at states) u u
 
-    -- one turn of the pass
+    -- one step of the pass
     pub advance : EdgesLeadForward p → (i : Insn) (s : AbsState) (e : Effect) (rest between new : List Arrival) → slot_at p u ≡ Some i → noted_at arrivals u ≡ Least s → abstract_step limits u i s ≡ Ok e → TakesArrival u arrivals rest → Flows (edge_target u i Target) e.jump rest between → Flows (edge_target u i Next) e.next between new → Progress limits p (more states s) new (u + 1)
     advance forward i s e rest between new at is ok taken f g =
         let here : IsLeastOfSome Here s = subst (IsArrivalOf Here) is (h.noted u (omega arith) lt) in

@@ -1,4 +1,4 @@
--- What may be known of a place: no change of a reference and no join knows which number its data are.
+-- Allowed values of a place: no change of a reference and no join produces a known number.
 use Rattle.std.proofs.Common.{◌≡◌, ℕ, ◌<◌, ◌≤◌, true, false, List, [], length, get_or, refl, subst, arith, ⊎_elim}
 use Rattle.std.specs.Prelude.{◌==◌, pos, if◌then◌else◌}
 use Rattle.std.proofs.lemmas.Bool.{cases_lt}
@@ -11,7 +11,7 @@ use Rattle.rb_verifier.specs.inner.ChangedValues.{place_after}
 use Rattle.rb_verifier.specs.inner.KeptList.{IsKeptList}
 use Rattle.rb_verifier.specs.inner.ValueJoins.{IsJoinValue}
 
--- what a place value is from a change on
+-- a change keeps the value of a place allowed
 pub value_after : (change : Change) (v : Abs) → IsPlaceValue v → IsPlaceValue (place_after change v)
 value_after change (Known n) h = absurd h
 value_after (IsNull id) (Perhaps other) h = elim (other == id) as (λ b. IsPlaceValue (if b then Number else Perhaps other)) [ true ↦ tt | false ↦ tt ]
@@ -36,7 +36,7 @@ value_after (GivenBack id) (Stack offset) h = tt
 value_after (GivenBack id) (Ring ring) h = tt
 value_after (GivenBack id) (Perhaps other) h = tt
 
--- a join of place values: only the known number itself is below it
+-- a join of allowed values is allowed: only a known number itself is below it
 pub value_joined : (v w join : Abs) → IsJoinValue v w join → IsPlaceValue v → IsPlaceValue join
 value_joined v w (Known n) joined h = subst IsPlaceValue joined.left h
 value_joined v w Unreadable joined h = tt
@@ -47,7 +47,7 @@ value_joined v w (Ring ring) joined h = tt
 value_joined v w (Perhaps id) joined h = tt
 value_joined v w (Record id offset) joined h = tt
 
--- ---- the list that code keeps
+-- ---- the list that code stores
 
 pub few_kept : (zs : List Abs) → IsKeptList zs → length zs ≤ 64
 unfolding IsKeptList
@@ -57,7 +57,7 @@ pub value_kept : (zs : List Abs) (k : ℕ) → IsKeptList zs → k < length zs �
 unfolding IsKeptList
 value_kept zs k kept lt = (kept k lt).1
 
--- one that is built from the last place down
+-- a list that is built from the last place down
 pub kept_built : (zs : List Abs) (n : ℕ) → length zs ≡ n → n ≤ 64 → ((j : ℕ) → j < n → IsPlaceValue (get_or zs j Number)) → IsKeptList zs
 unfolding IsKeptList
 kept_built zs n count few h = λ k lt. (omega arith, h k (omega arith))

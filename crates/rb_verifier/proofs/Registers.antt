@@ -11,12 +11,12 @@ use Rattle.rb_verifier.specs.AbstractStates.{value_in}
 use Rattle.rb_verifier.specs.Joins.{IsJoin}
 use Rattle.rb_verifier.specs.inner.ValueJoins.{IsJoinValue}
 
--- a loop that changes each value by a function
+-- one turn of a loop that maps a function over the values
 pub changed_more : (f : Abs → Abs) (xs ys : List Abs) (i : ℕ) (x : Abs) → i < length xs → i < length ys → ys ≡ map f (take i xs) ++ drop i xs → x ≡ f (get_or ys i Unreadable) → set ys i x ≡ map f (take (i + 1) xs) ++ drop (i + 1) xs
 changed_more f xs ys i x lt lt' h e =
     ap (λ y. set ys i y) e ∙ map_over_more f xs ys i (get_or ys i Unreadable) lt h (get_or_default ys i Unreadable (get_or ys i Unreadable) lt')
 
--- states are joined register by register, and place by place
+-- two states are joined register by register and place by place
 pub join_by_values : (s t join : AbsState) → s.held ≡ t.held → join.held ≡ s.held → length s.values ≡ length t.values → length join.values ≡ length s.values → ((r : ℕ) → IsJoinValue (value_in s r) (value_in t r) (value_in join r)) → ((place : ℕ) → IsJoinValue (known_in s.places place) (known_in t.places place) (known_in join.places place)) → IsJoin s t join
 join_by_values s t join same held count join_count each kept = record {
   left = record { held = cc; count = cc; values = λ r. (each r).left; places = λ place. (kept place).left };
@@ -33,7 +33,7 @@ joined_more xs ys zs i v lt same below here =
     (λ r k. let ne : r ≢ i = omega arith in subst (IsJoinValue (get_or xs r Unreadable) (get_or ys r Unreadable)) (sym (get_or-set_other zs i r v Unreadable ne)) (below r k))
     (subst (IsJoinValue (get_or xs i Unreadable) (get_or ys i Unreadable)) (sym (get_or-set_same zs i v Unreadable lt)) (subst (λ x. IsJoinValue x (get_or ys i Unreadable) v) same here))
 
--- what holds of eleven registers, and where there are none, holds everywhere
+-- a property holds for every register number if it holds for the eleven registers and for numbers without a register
 pub everywhere : (P : Abs → Abs → Abs → Type 0) (xs ys zs : List Abs) → P Unreadable Unreadable Unreadable → length xs ≡ 11 → length ys ≡ 11 → length zs ≡ 11 → ((r : ℕ) → r < 11 → P (get_or xs r Unreadable) (get_or ys r Unreadable) (get_or zs r Unreadable)) → (r : ℕ) → P (get_or xs r Unreadable) (get_or ys r Unreadable) (get_or zs r Unreadable)
 everywhere P xs ys zs past a b d below r =
     ⊎_elim (λ lt. below r lt)

@@ -1,4 +1,4 @@
--- The effects on states keep the order.
+-- The effects on states are monotone.
 use Rattle.std.proofs.Common.{◌≡◌, ℕ, zero, suc, sym, ◌∙◌, ap, List, [], ◌∷◌, length, map, get_or, set, length-set}
 use Rattle.std.proofs.lemmas.List.{length-map}
 use Rattle.rb_verifier.specs.declared.reference_changes.Change.{Change}
@@ -44,7 +44,7 @@ put_below s t r v w h k = record {
 pub placed_below : (s t : AbsState) (xs ys : List Abs) → Below s t → ListsBelow xs ys → Below (record s { places = xs }) (record t { places = ys })
 placed_below s t xs ys h k = record { held = h.held; count = h.count; values = h.values; places = k }
 
--- each value changed, and the references by some function
+-- changing each value, and the references by a function, is monotone
 pub changes_below : (change : Change) (f : List Reference → List Reference) (s t : AbsState) → Below s t → Below (record { values = map (after_change change) s.values; held = f s.held; places = listed_places (λ place. place_after change (known_in s.places place)) }) (record { values = map (after_change change) t.values; held = f t.held; places = listed_places (λ place. place_after change (known_in t.places place)) })
 changes_below change f s t h = record {
   held = ap f h.held;

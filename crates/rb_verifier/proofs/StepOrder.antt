@@ -1,4 +1,4 @@
--- Each row of the table keeps the order, and so does the table.
+-- The abstract step is monotone, case by case and as a whole.
 use Rattle.std.proofs.Common.{◌≡◌, ℕ, ℤ, pos, refl, subst, List, [], ◌∷◌, ◌++◌, filter, map, Result, Ok, false, Option, Some, None}
 use Rattle.std.specs.Prelude.{nat_le, not}
 use Rattle.rb_insn.specs.ArithmeticAndJumps.{value_of}
@@ -42,7 +42,7 @@ use Rattle.rb_verifier.proofs.StateOrder.{put_below, placed_below, changes_below
 abbrev StepBelow : Result Effect Rule → Result Effect Rule → Type 0
 StepBelow = ResultBelow EffectBelow
 
--- a check, and then what follows it
+-- a check followed by the rest of a step
 checked : (m n : Check) (f g : Unit {0} → Result Effect Rule) → CheckBelow m n → StepBelow (f tt) (g tt) → StepBelow (m >>= f) (n >>= g)
 checked m n f g h k = result_bind (λ _ _. Unit {0}) EffectBelow m n f g h (λ _ _ _. k)
 
@@ -60,7 +60,7 @@ module _ (limits : Limits) (s t : AbsState) (h : Below s t) where
   inside_here : (v w : Abs) (by : ℤ) (len : ℕ) → BelowValue v w → CheckBelow (check_inside limits s.held v by len) (check_inside limits t.held w by len)
   inside_here v w by len b = subst (λ held. CheckBelow (check_inside limits s.held v by len) (check_inside limits held w by len)) h.held (inside_below limits s.held by len v w b)
 
-  -- a check of the references alone
+  -- a check on the references alone
   held_check : (f : List Reference → Check) → CheckBelow (f s.held) (f t.held)
   held_check f = subst (λ held. CheckBelow (f s.held) (f held)) h.held (check_refl (f s.held))
 
@@ -98,7 +98,7 @@ module _ (limits : Limits) (s t : AbsState) (h : Below s t) where
       checked (check_writable dst) (check_writable dst) _ _ (check_refl (check_writable dst))
       (checked (refused_if (nat_le limits.rings ring) rule.HelperArgument) _ _ _ (check_refl (refused_if (nat_le limits.rings ring) rule.HelperArgument)) (assigned_below dst (Ring ring) (Ring ring) refl))
 
-  -- the rest of a load, by what is known of its base
+  -- the rest of a load, given the abstract value of its base
   abbrev load_from : Abs → Reg → ℤ → ℕ → AbsState → Result Effect Rule
   load_from v dst by len u = check_tested v >>= (λ _. check_inside limits u.held v by len >>= (λ _. check_loaded (byte_behind v by) len (known_in u.places) >>= (λ x. Ok (assignment_effect dst x u))))
 
@@ -113,7 +113,7 @@ module _ (limits : Limits) (s t : AbsState) (h : Below s t) where
       checked (check_writable dst) (check_writable dst) _ _ (check_refl (check_writable dst))
       (below_cases (λ v w. StepBelow (load_from v dst by len s) (load_from w dst by len t)) (λ v. tt) (λ v n. tt) (load_same dst by len) (value_in s base.number) (value_in t base.number) (h.values base.number))
 
-  -- a store, by what is known of its base
+  -- a store, given the abstract value of its base
   abbrev store_from : Abs → ℤ → ℕ → Abs → AbsState → Result Effect Rule
   store_from v by len x u =
       check_tested v >>= (λ _. check_not_context v >>= (λ _. check_inside limits u.held v by len >>= (λ _. check_stored (byte_behind v by) len x u.places >>= (λ places. Ok (effect_on_both (record u { places = places }))))))
@@ -134,7 +134,7 @@ module _ (limits : Limits) (s t : AbsState) (h : Below s t) where
       checked (refused_if (not (is_empty s.held)) rule.ReferenceLeft) (refused_if (not (is_empty t.held)) rule.ReferenceLeft) _ _ (held_check (λ held. refused_if (not (is_empty held)) rule.ReferenceLeft))
       (checked (check_number rule.ResultNotNumber (value_in s 0)) (check_number rule.ResultNotNumber (value_in t 0)) _ _ (number_below rule.ResultNotNumber _ _ (h.values 0)) (both_below s t h))
 
-  -- conditional jumps
+  -- ---- conditional jumps
 
   compared_below : (v v' w w' : Abs) → BelowValue v v' → BelowValue w w' → StepBelow (check_branch None v w s) (check_branch None v' w' t)
   compared_below v v' w w' g k =
@@ -180,9 +180,9 @@ module _ (limits : Limits) (s t : AbsState) (h : Below s t) where
   branch_below (Some test) v v' w w' g k =
       below_cases (λ v v'. StepBelow (check_branch (Some test) v w s) (check_branch (Some test) v' w' t)) (null_test_top test w w') (null_test_number test w w' k) (null_test_same test w w' k) v v' g
 
-  -- calls
+  -- ---- calls
 
-  -- the rest of an output, by what is known of where its bytes are
+  -- the rest of an output, given the abstract value of its data pointer
   abbrev output_from : Abs → AbsState → Result Effect Rule
   output_from v u =
       check_tested v >>= (λ _. check_part_pointer v >>= (λ _. check_known_size (value_in u 3) >>= (λ size. check_inside limits u.held v (pos 0) size >>= (λ _.
@@ -237,7 +237,7 @@ module _ (limits : Limits) (s t : AbsState) (h : Below s t) where
   call_below unit (Some Discard) = give_back_below
   call_below unit (Some Query) = query_below
 
--- checks that hold at a state hold at each state below it, and effects keep the order
+-- checks that hold in a state hold in every state below it, and the effects are ordered likewise
 pub step_below : StepKeepsOrder
 unfolding abstract_step
 step_below limits unit (Move width dst (Immediate k)) s t h = given_below limits s t h dst (Known (value_of (Move width dst (Immediate k)) 0 0))

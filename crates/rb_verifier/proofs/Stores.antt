@@ -1,4 +1,4 @@
--- What a store of a value answers by what it leaves of the places.
+-- The result of a store of a value, given the places that it leaves.
 use Rattle.std.proofs.Common.{◌≡◌, ℕ, ℤ, Option, Ok, Err, refl, inl, inr, ap, ◌∙◌}
 use Rattle.rb_insn.specs.declared.reg.Reg.{Reg}
 use Rattle.rb_verifier.specs.declared.limits.Limits.{Limits}

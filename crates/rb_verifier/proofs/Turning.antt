@@ -1,4 +1,4 @@
--- One turn of the pass: the least annotation grows by one unit, and what arrives behind it is noted.
+-- One step of the pass: the least annotation grows by one unit, and the states that arrive at later units are merged.
 use Rattle.std.proofs.Common.{◌≡◌, inl, inr, ⊎_elim, ℕ, ◌+◌, ◌<◌, refl, sym, ◌∙◌, ap, subst, List, [], ◌∷◌, ◌++◌, length, Ok, Some, None, arith}
 use Rattle.std.proofs.Math.ListN.{get_or-append}
 use Rattle.std.proofs.Math.Seq.{get_or-append_seam}
@@ -34,7 +34,7 @@ at_end states s u e = subst (λ x. state_at (more states s) x ≡ s) e (get_or-a
 pub later_unit : (p : List Insn) → EdgesLeadForward p → (u : ℕ) (i : Insn) (along : Edge) (to : ℕ) → slot_at p u ≡ Some i → edge_target u i along ≡ Some to → u < to
 later_unit p forward u i along to at leads_to = (forward u along to (record { insn = i; begins = at; leads_to = leads_to })).0
 
--- an instruction's turn
+-- the step of an instruction
 module _ (limits : Limits) (p : List Insn) (forward : EdgesLeadForward p) (states : List AbsState) (u : ℕ) (s : AbsState) (i : Insn) (e : Effect) (done : length states ≡ u) (l : IsLeastBefore limits p (state_at states) u) (lt : u < unit_count p) (at : slot_at p u ≡ Some i) (above : IsLeastAbove (Arrives limits p (state_at states) u u) s) (ok : abstract_step limits u i s ≡ Ok e) where
   abbrev Grown : Annotation
   Grown = state_at (more states s)
@@ -92,7 +92,7 @@ module _ (limits : Limits) (p : List Insn) (forward : EdgesLeadForward p) (state
         (cases_eq v u);
   }
 
-  -- what arrives at a later unit
+  -- the states that arrive at a later unit
   abbrev Later : ℕ → AbsState → Type 0
   Later t = AndIf (AndIf (Arrives limits p (state_at states) u t) (edge_target u i Target) t e.jump) (edge_target u i Next) t e.next
 
@@ -127,7 +127,7 @@ module _ (limits : Limits) (p : List Insn) (forward : EdgesLeadForward p) (state
       noted_iff {A = Later t} {B = Arrives limits p Grown (u + 1) t} (later_arrives t) (arrives_later t) (noted_at new t)
       (noted_flows (AndIf (Arrives limits p (state_at states) u t) (edge_target u i Target) t e.jump) t g (noted_flows (Arrives limits p (state_at states) u t) t f h))
 
--- the turn of a unit at which no instruction begins
+-- the step of a unit at which no instruction begins
 module _ (limits : Limits) (p : List Insn) (forward : EdgesLeadForward p) (states : List AbsState) (u : ℕ) (done : length states ≡ u) (l : IsLeastBefore limits p (state_at states) u) (none : slot_at p u ≡ None) where
   abbrev Passed : Annotation
   Passed = state_at (more states entry_state)

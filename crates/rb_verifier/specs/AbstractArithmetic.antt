@@ -1,4 +1,5 @@
--- What is known of the result of arithmetic (own profile). The numbers are those of the instructions' meaning.
+-- Abstract arithmetic: the abstract results of arithmetic instructions (own profile). Known numbers are computed by the
+-- concrete meaning of the instructions.
 use Rattle.std.specs.Prelude.{ℕ, ℤ, ◌+ℤ◌, ◌-ℤ◌, neg_ℤ, pos, ◌^◌, Bool, ◌&&◌, int_le, Option, Some, None, Result, Ok, Err, if◌then◌else◌}
 use Rattle.rb_insn.specs.ArithmeticAndJumps.{value_of}
 use Rattle.rb_insn.specs.WholeNumbers.{signed_of, wrapped}
@@ -19,13 +20,13 @@ use Rattle.rb_verifier.specs.declared.value.Abs.TheVariants.{Number, Known, Ctx,
 use Rattle.rb_verifier.specs.ValueChecks.{◌>>=◌, check_number}
 use Rattle.rb_verifier.specs.AbstractStates.{value_in}
 
--- what is known of the second operand: an immediate is sign-extended to 64 bits
+-- the abstract value of the second operand: an immediate is sign-extended to 64 bits
 abbrev pub operand_value : Operand → AbsState → Abs
 operand_value (Immediate k) s = Known (wrapped 64 k)
 operand_value (Register r) s = value_in s r.number
 
--- the number that an instruction leaves of dst and src, where both are known; an instruction that reads only one of
--- them is given any number for the other
+-- the result of an instruction if dst and src are known, otherwise any number; for an instruction that reads only one
+-- of them, the caller passes an arbitrary number for the other
 abbrev pub abstract_result : Insn → Abs → Abs → Abs
 abstract_result insn (Known dst) (Known src) = Known (value_of insn dst src)
 abstract_result insn dst src = Number
@@ -37,13 +38,13 @@ check_numbers insn dst src = do
   _ ← check_number rule.PointerArithmetic src
   Ok (abstract_result insn dst src)
 
--- which way a 64-bit ADD or SUB moves a pointer's offset
+-- the direction in which a 64-bit ADD or SUB moves a pointer's offset
 abbrev pub direction_of : Width → BinaryOp → Option Direction
 direction_of W64 Add = Some Forward
 direction_of W64 Sub = Some Back
 direction_of _ _ = None
 
--- an offset that is moved by a number, read as signed
+-- an offset after it is moved by a number, read as signed
 abbrev pub moved_offset : Direction → ℤ → ℕ → ℤ
 moved_offset Forward offset by = offset +ℤ signed_of 64 by
 moved_offset Back offset by = offset -ℤ signed_of 64 by
@@ -55,7 +56,7 @@ is_near offset = int_le (neg_ℤ (pos (2 ^ 30))) offset && int_le offset (pos (2
 abbrev pub check_near : ℤ → Result ℤ Rule
 check_near offset = if is_near offset then Ok offset else Err rule.PointerArithmetic
 
--- a pointer into a part is moved by a known number; all else is arithmetic on numbers
+-- arithmetic on two operands: a pointer into a part may move by a known number; any other operands must be numbers
 abbrev pub check_arithmetic : Option Direction → Insn → Abs → Abs → Result Abs Rule
 check_arithmetic (Some direction) insn (Ctx offset) (Known by) = check_near (moved_offset direction offset by) >>= (λ to. Ok (Ctx to))
 check_arithmetic (Some direction) insn (Stack offset) (Known by) = check_near (moved_offset direction offset by) >>= (λ to. Ok (Stack to))

@@ -1,4 +1,4 @@
--- What is known before an instruction, and the order of such knowledge (own profile).
+-- The abstract state before an instruction, and the order of abstract states (own profile).
 use Rattle.std.specs.Prelude.{◌≡◌, ◌⊎◌, ℕ, pos, [], length, slice_set, slice_index_or, replicate, Option, Some, None, Result, Ok, Err}
 use Rattle.rb_verifier.specs.declared.rule.Rule.{Rule}
 use Rattle.rb_verifier.specs.declared.rule.StepFault.{StepFault}
@@ -10,15 +10,16 @@ use Rattle.rb_verifier.specs.declared.state.AbsState.{AbsState}
 use Rattle.rb_verifier.specs.declared.state.Effect.{Effect}
 use Rattle.rb_verifier.specs.AbstractValues.{BelowValue}
 
--- what is known of a register
+-- the abstract value of a register
 abbrev pub value_in : AbsState → ℕ → Abs
 value_in s r = slice_index_or s.values r Unreadable
 
--- a register has got a value
+-- the state after a register is set
 abbrev pub put : AbsState → ℕ → Abs → AbsState
 put s r v = record s { values = slice_set s.values r v }
 
--- at entry r1 points to the context, r10 to the stack, the other registers hold nothing, no reference is held, and the stack has data
+-- at entry, r1 points to the context, r10 to the stack, the other registers are unreadable, no reference is held, and
+-- the stack holds data
 abbrev pub entry_state : AbsState
 entry_state = record {
   values = slice_set (slice_set (replicate 11 Unreadable) 1 (Ctx (pos 0))) 10 (Stack (pos 0));
@@ -26,37 +27,40 @@ entry_state = record {
   places = all_data;
 }
 
--- the same along both edges
+-- the effect that has the same state along both edges
 abbrev pub effect_on_both : AbsState → Effect
 effect_on_both s = record { next = s; jump = s }
 
--- the state along a jump's edge: the one that is returned, else the state along the other edge
+-- the state along a jump's edge: the returned one if present, otherwise the state along the other edge
 abbrev pub along_jump : Option AbsState → AbsState → AbsState
 along_jump None next = next
 along_jump (Some jump) next = jump
 
--- what a step in place returns that takes no memory: a rule that is broken, or an effect, of which it leaves the state along the next edge
+-- the effect of a step in place that can't fail to allocate, from its result and the state that it leaves: a broken
+-- rule, or the states along both edges
 abbrev pub effect_left : Result (Option AbsState) Rule → AbsState → Result Effect Rule
 effect_left (Ok jump) next = Ok (record { next = next; jump = along_jump jump next })
 effect_left (Err broken) next = Err broken
 
--- memory may be wanted: the stack may keep a pointer, or it may once the step was made
+-- the step may need memory: the stack may hold a pointer, before the step or after it
 abbrev pub MayWantMemory : AbsState → Result Effect Rule → Type 0
 MayWantMemory s answer = MayKeepPointer s.places ⊎ ((effect : Effect) × (answer ≡ Ok effect) × MayKeepPointer effect.next.places)
 
--- what a step in place answers so and leaves: a rule that is broken, or an effect; or there was no memory, where it may be wanted
+-- the result of a step in place and the state that it leaves correspond to this answer, a broken rule or an effect; or
+-- an allocation failed, which is possible only if the step may need memory
 abbrev pub IsLeft : Result (Option AbsState) StepFault → AbsState → Result Effect Rule → Type 0
 IsLeft (Ok jump) next answer = answer ≡ Ok (record { next = next; jump = along_jump jump next })
 IsLeft (Err (fault.Rule broken)) next answer = answer ≡ Err broken
 IsLeft (Err fault.Memory) next answer = MayWantMemory next answer
 
--- a step from a state answers so: a rule that is broken, or an effect; or there was no memory, where it may be wanted
+-- the result of a step from a state corresponds to this answer, a broken rule or an effect; or an allocation failed,
+-- which is possible only if the step may need memory
 abbrev pub IsStep : AbsState → Result Effect StepFault → Result Effect Rule → Type 0
 IsStep s (Ok effect) answer = answer ≡ Ok effect
 IsStep s (Err (fault.Rule broken)) answer = answer ≡ Err broken
 IsStep s (Err fault.Memory) answer = MayWantMemory s answer
 
--- the order of states: the references are the same, and what is known of each register and of each place is below
+-- the order of states: the references are the same, and the abstract value of each register and of each place is below
 pub record Below (s t : AbsState) : Type 0 where
   pub held : s.held ≡ t.held
   pub count : length s.values ≡ length t.values

@@ -1,4 +1,4 @@
--- What is known of one value, and the order of such knowledge (own profile).
+-- Abstract values, and their order (own profile).
 use Rattle.std.specs.Prelude.{◌≡◌}
 use Rattle.rb_verifier.specs.declared.value.Abs.{Abs}
 use Rattle.rb_verifier.specs.declared.value.Abs.TheVariants.{Unreadable, Number, Known, Ctx, Stack, Ring, Perhaps, Record}
@@ -9,8 +9,8 @@ IsNumber Number = Unit {0}
 IsNumber (Known n) = Unit {0}
 IsNumber _ = ⊥
 
--- what the second says holds wherever what the first says does: a known number is below Number, a number or a
--- pointer is below Unreadable, and each value is below itself
+-- every concrete value that the first describes, the second describes too: a known number is below Number, every value
+-- is below Unreadable, and each value is below itself
 abbrev pub BelowValue : Abs → Abs → Type 0
 BelowValue v Unreadable = Unit {0}
 BelowValue v Number = IsNumber v

@@ -11,20 +11,20 @@ use Rattle.rb_verifier.specs.declared.state.Effect.{Effect}
 use Rattle.rb_verifier.specs.AbstractStates.{Below, entry_state}
 use Rattle.rb_verifier.specs.VerifierChecks.{abstract_step}
 
--- a state for each unit; what it says of a unit at which no instruction begins is of no account
+-- a state for each unit; the state at a unit where no instruction begins has no meaning
 abbrev pub Annotation : Type 0
 Annotation = ℕ → AbsState
 
--- the annotation that a list of states gives
+-- the annotation that a list of states represents
 abbrev pub state_at : List AbsState → Annotation
 state_at states unit = slice_index_or states unit entry_state
 
--- what is known along an edge
+-- the state along an edge
 abbrev pub along_edge : Edge → Effect → AbsState
 along_edge Next e = e.next
 along_edge Target e = e.jump
 
--- the checks of the instruction at a unit hold, and along each edge to a unit below the bound the effect is below that
+-- the checks of the instruction at a unit hold, and along each edge to a unit below the bound, the effect is below that
 -- unit's state
 pub record HoldsAt (limits : Limits) (a : Annotation) (bound unit : ℕ) (insn : Insn) : Type 0 where
   pub effect : Effect
@@ -40,27 +40,27 @@ pub record IsValidBefore (limits : Limits) (program : List Insn) (a : Annotation
 abbrev pub IsValid : Limits → List Insn → Annotation → Type 0
 IsValid limits program a = IsValidBefore limits program a (unit_count program)
 
--- it is valid below the bound, and below each other annotation that is
+-- the annotation is valid below the bound, and below every other annotation that is
 pub record IsLeastBefore (limits : Limits) (program : List Insn) (a : Annotation) (bound : ℕ) : Type 0 where
   pub valid : IsValidBefore limits program a bound
   pub least : (b : Annotation) → IsValidBefore limits program b bound → (unit : ℕ) (insn : Insn) → unit < bound → slot_at program unit ≡ Some insn → Below (a unit) (b unit)
 
--- it is valid, and below each other valid annotation
+-- the annotation is valid, and below every other valid annotation
 abbrev pub IsLeast : Limits → List Insn → Annotation → Type 0
 IsLeast limits program a = IsLeastBefore limits program a (unit_count program)
 
--- a state arrives at a unit from the units below the bound: the entry state at the first unit, and what is known along
--- each edge that leads there
+-- a state arrives at a unit from the units below the bound: the entry state at the first unit, and the state along each
+-- edge that leads there
 pub data Arrives (limits : Limits) (program : List Insn) (a : Annotation) (bound to : ℕ) (s : AbsState) : Type 0 where
   at_entry : to ≡ 0 → s ≡ entry_state → Arrives limits program a bound to s
   by_edge : (from : ℕ) (insn : Insn) (e : Effect) (along : Edge) → from < bound → slot_at program from ≡ Some insn → abstract_step limits from insn (a from) ≡ Ok e → edge_target from insn along ≡ Some to → s ≡ along_edge along e → Arrives limits program a bound to s
 
--- the least state above all of some
+-- the least state above all states of a set
 pub record IsLeastAbove (A : AbsState → Type 0) (s : AbsState) : Type 0 where
   pub above : (x : AbsState) → A x → Below x s
   pub least : (t : AbsState) → ((x : AbsState) → A x → Below x t) → Below s t
 
--- two of some states have different references
+-- a set contains two states with different references
 pub record HaveDifferent (A : AbsState → Type 0) : Type 0 where
   pub one : AbsState
   pub other : AbsState
@@ -68,13 +68,13 @@ pub record HaveDifferent (A : AbsState → Type 0) : Type 0 where
   pub other_is : A other
   pub differ : one.held ≢ other.held
 
--- the first rule that is broken at a unit, under an annotation of the units below: different references arrive, or else the
--- first check fails at the least state above all that arrives
+-- a rule that is broken at a unit, given an annotation of the units below: states with different references arrive, or
+-- the first failing check at the least state above all that arrive
 pub data BreaksRuleAt (limits : Limits) (program : List Insn) (a : Annotation) (unit : ℕ) (rule : Rule) : Type 0 where
   differ : rule ≡ ReferencesDiffer → HaveDifferent (Arrives limits program a unit unit) → BreaksRuleAt limits program a unit rule
   check : (insn : Insn) (s : AbsState) → slot_at program unit ≡ Some insn → IsLeastAbove (Arrives limits program a unit unit) s → abstract_step limits unit insn s ≡ Err rule → BreaksRuleAt limits program a unit rule
 
--- the rule is the first that is broken at the unit, under the least annotation of the units below
+-- the rule is the first one that is broken at the unit, given the least annotation of the units below
 pub record IsFirstBrokenRule (limits : Limits) (program : List Insn) (unit : ℕ) (rule : Rule) : Type 0 where
   pub inside : unit < unit_count program
   pub annotation : Annotation

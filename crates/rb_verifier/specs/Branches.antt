@@ -1,4 +1,4 @@
--- What is known along both edges of a conditional jump (own profile).
+-- Abstract conditional jumps: the states along both edges (own profile).
 use Rattle.std.specs.Prelude.{ℕ, pos, Option, Some, None, Result, Ok}
 use Rattle.rb_insn.specs.declared.insn.Condition.{Condition}
 use Rattle.rb_insn.specs.declared.insn.Condition.TheVariants.{Equal, NotEqual}
@@ -18,13 +18,13 @@ use Rattle.rb_verifier.specs.ReferenceChanges.{null_state, there_state}
 use Rattle.rb_verifier.specs.ValueChecks.{◌>>=◌, check_readable, check_number}
 use Rattle.rb_verifier.specs.AbstractStates.{effect_on_both}
 
--- a test against null: the 64-bit JEQ and JNE against the immediate 0
+-- a null test is a 64-bit JEQ or JNE against the immediate 0
 abbrev pub null_test_of : Width → Condition → Operand → Option NullTest
 null_test_of W64 Equal (Immediate (pos ℕ.zero)) = Some JumpsIfNull
 null_test_of W64 NotEqual (Immediate (pos ℕ.zero)) = Some JumpsIfThere
 null_test_of _ _ _ = None
 
--- the test of a reservation tells each edge what it found; else both operands are numbers
+-- a null test of a reservation refines the state along each edge; any other comparison needs two numbers
 abbrev pub check_branch : Option NullTest → Abs → Abs → AbsState → Result Effect Rule
 check_branch (Some JumpsIfNull) (Perhaps id) operand s = Ok (record { next = there_state id s; jump = null_state id s })
 check_branch (Some JumpsIfThere) (Perhaps id) operand s = Ok (record { next = null_state id s; jump = there_state id s })

@@ -1,4 +1,5 @@
--- The helpers (bpf-helpers(7); the numbers are the kernel's): the checks of their arguments in order, and what is known after the call (own profile).
+-- The helpers (bpf-helpers(7); the numbers are the kernel's): the checks on their arguments in order, and the state
+-- after the call (own profile).
 use Rattle.std.specs.Prelude.{ℕ, pos, false, ◌==◌, ◌++◌, ◌∷◌, [], Option, Some, None, Result, Ok, Err, if◌then◌else◌}
 use Rattle.rb_verifier.specs.declared.limits.Limits.{Limits}
 use Rattle.rb_verifier.specs.declared.helper.Helper.{Helper}
@@ -22,16 +23,16 @@ helper_number Submit = 132
 helper_number Discard = 133
 helper_number Query = 134
 
--- the helper of a number
+-- the helper with this number
 abbrev pub helper_of : ℕ → Option Helper
 helper_of n =
     if n == 130 then Some Output else (if n == 131 then Some Reserve else (if n == 132 then Some Submit else (if n == 133 then Some Discard else (if n == 134 then Some Query else None))))
 
--- after a call r0 holds the answer, and r1 to r5 hold nothing
+-- after a call, r0 holds the result, and r1 to r5 are unreadable
 abbrev pub after_answer : Abs → AbsState → AbsState
 after_answer v s = put (put (put (put (put (put s 0 v) 1 Unreadable) 2 Unreadable) 3 Unreadable) 4 Unreadable) 5 Unreadable
 
--- a reference is held to a new record of a ring, or perhaps to none
+-- after a reservation, a reference is held to a new record of a ring, or to null
 abbrev pub after_reserve : ℕ → ℕ → ℕ → AbsState → AbsState
 after_reserve unit ring size s =
     after_answer (Perhaps unit) (record s { held = s.held ++ (record { id = unit; ring = ring; size = size; sure = false }) ∷ [] })

@@ -1,4 +1,4 @@
--- The join of what is known: the least that is above both.
+-- The join of abstract states: the least state above both.
 use Rattle.rb_verifier.specs.declared.state.AbsState.{AbsState}
 use Rattle.rb_verifier.specs.AbstractStates.{Below}
 

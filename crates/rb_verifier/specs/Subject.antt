@@ -1,10 +1,10 @@
--- What is verified: a program, and what it may reach.
+-- The subject of verification: a program, and what it may access.
 use Rattle.std.specs.Prelude.{ℕ, Bool, true, false, List, count_by, Option, Some, None}
 use Rattle.rb_insn.specs.declared.insn.Insn.{Insn}
 use Rattle.rb_insn.specs.declared.insn.Insn.TheVariants.{Call}
 use Rattle.rb_verifier.specs.declared.limits.Limits.{Limits}
 
--- a program, the length of its context in bytes, and the number of rings that it knows
+-- a program, the length of its context in bytes, and the number of rings that it may use
 pub record Subject : Type 0 where
   pub program : List Insn
   pub ctx_len : ℕ
@@ -17,7 +17,7 @@ abbrev pub is_call : Insn → Bool
 is_call (Call helper) = true
 is_call insn = false
 
--- the slot of a unit has a CALL
+-- a CALL begins at this unit
 abbrev pub calls : Option Insn → Bool
 calls None = false
 calls (Some insn) = is_call insn

@@ -1,4 +1,5 @@
--- The table of verification: the checks of each instruction in their order, and what is known along each edge out of it (own profile).
+-- The abstract step: the checks of each instruction in their order, and the state along each edge out of it (own
+-- profile).
 use Rattle.std.specs.Prelude.{ℕ, ℤ, nat_le, not, Option, None, Result, Ok}
 use Rattle.rb_insn.specs.ArithmeticAndJumps.{value_of}
 use Rattle.rb_insn.specs.declared.insn.Insn.{Insn}
@@ -24,11 +25,11 @@ use Rattle.rb_verifier.specs.KeptPointers.{known_in, byte_behind, check_loaded, 
 use Rattle.rb_verifier.specs.References.{is_empty}
 use Rattle.rb_verifier.specs.AbstractStates.{value_in, put, effect_on_both}
 
--- a register gets a value
+-- the effect of setting a register
 abbrev pub assignment_effect : Reg → Abs → AbsState → Effect
 assignment_effect dst v s = effect_on_both (put s dst.number v)
 
--- a register gets this value, whatever it held
+-- sets a register to this value, whatever it held
 abbrev pub check_assign : Reg → Abs → AbsState → Result Effect Rule
 check_assign dst v s = do
   _ ← check_writable dst
@@ -41,7 +42,7 @@ check_copy dst src s = do
   _ ← check_readable (value_in s src.number)
   Ok (assignment_effect dst (value_in s src.number) s)
 
--- a move that computes, from a number in src
+-- a move that computes its result from a number in src
 abbrev pub check_convert : Insn → Reg → Reg → AbsState → Result Effect Rule
 check_convert insn dst src s = do
   _ ← check_writable dst
@@ -64,14 +65,14 @@ check_binary direction insn dst operand s = do
   v ← check_arithmetic direction insn (value_in s dst.number) (operand_value operand s)
   Ok (assignment_effect dst v s)
 
--- the ring of a number
+-- a load of the ring with this number
 abbrev pub check_ring_load : Limits → Reg → ℕ → AbsState → Result Effect Rule
 check_ring_load limits dst ring s = do
   _ ← check_writable dst
   _ ← refused_if (nat_le limits.rings ring) rule.HelperArgument
   Ok (assignment_effect dst (Ring ring) s)
 
--- a load of so many bytes: of a place of the stack as a whole, or of data
+-- a load of `len` bytes: of a whole place of the stack, or of data
 abbrev pub check_load : Limits → Reg → Reg → ℤ → ℕ → AbsState → Result Effect Rule
 check_load limits dst base offset len s = do
   _ ← check_writable dst
@@ -80,7 +81,7 @@ check_load limits dst base offset len s = do
   v ← check_loaded (byte_behind (value_in s base.number) offset) len (known_in s.places)
   Ok (assignment_effect dst v s)
 
--- a store of so many bytes of a value: of a number, or of a pointer that a place of the stack keeps
+-- a store of `len` bytes of a value: of a number, or of a pointer to a whole place of the stack
 abbrev pub check_store : Limits → Reg → ℤ → ℕ → Abs → AbsState → Result Effect Rule
 check_store limits base offset len v s = do
   _ ← check_tested (value_in s base.number)
@@ -89,14 +90,14 @@ check_store limits base offset len v s = do
   places ← check_stored (byte_behind (value_in s base.number) offset) len v s.places
   Ok (effect_on_both (record s { places = places }))
 
--- the end of the program
+-- the exit of the program
 abbrev pub check_exit : AbsState → Result Effect Rule
 check_exit s = do
   _ ← refused_if (not (is_empty s.held)) rule.ReferenceLeft
   _ ← check_number rule.ResultNotNumber (value_in s 0)
   Ok (effect_on_both s)
 
--- the table: each instruction's checks in their order, and its effect
+-- the abstract step of each instruction: its checks in order, and its effect
 unfoldable pub abstract_step : Limits → ℕ → Insn → AbsState → Result Effect Rule
 abstract_step limits unit (Move width dst (Immediate k)) s = check_assign dst (Known (value_of (Move width dst (Immediate k)) 0 0)) s
 abstract_step limits unit (Move W64 dst (Register src)) s = check_copy dst src s

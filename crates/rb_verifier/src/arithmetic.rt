@@ -1,4 +1,4 @@
-//! What is known of the result of arithmetic.
+//! Abstract arithmetic: the abstract value that an arithmetic instruction produces.
 
 ghost use Rattle.std.specs.Prelude.{◌≡◌, MatchOption};
 ghost use Rattle.rb_insn.specs.ArithmeticAndJumps.{IsArithmetic};
@@ -10,10 +10,10 @@ use crate::value::Abs;
 use crate::value_checks::check_number;
 use rb_insn::{BinaryOp, Insn, Operand, Width};
 
-/// How far a pointer's offset may lie from its part's first byte, or from the stack's end.
+/// The largest distance of a pointer's offset from offset 0: the first byte of its part, or the end of the stack.
 const NEAR: i64 = 1 << 30;
 
-/// Which way an addition or a subtraction moves a pointer's offset.
+/// The direction in which an addition or a subtraction moves a pointer.
 #[derive(Clone, Copy)]
 pub(crate) enum Direction {
     /// An addition.
@@ -22,7 +22,7 @@ pub(crate) enum Direction {
     Back,
 }
 
-/// What is known of the second operand.
+/// Returns the abstract value of the second operand.
 pub(crate) fn operand_value(operand: Operand, state: &AbsState) -> Abs
     ensures { result ≡ operand_value operand state.now }
 {
@@ -32,7 +32,7 @@ pub(crate) fn operand_value(operand: Operand, state: &AbsState) -> Abs
     }
 }
 
-/// The number that an instruction leaves, where both operands are known.
+/// Returns the result of an instruction: a known number if both operands are known, otherwise any number.
 pub(crate) fn abstract_result(insn: &Insn, dst: Abs, src: Abs) -> Abs
     requires { IsArithmetic insn.now }
     ensures { result ≡ abstract_result insn.now dst src }
@@ -43,7 +43,7 @@ pub(crate) fn abstract_result(insn: &Insn, dst: Abs, src: Abs) -> Abs
     }
 }
 
-/// Arithmetic on numbers.
+/// Checks an arithmetic instruction on numbers and returns its result.
 pub(crate) fn check_numbers(insn: &Insn, dst: Abs, src: Abs) -> Result<Abs, Rule>
     requires { IsArithmetic insn.now }
     ensures { result ≡ check_numbers insn.now dst src }
@@ -53,7 +53,7 @@ pub(crate) fn check_numbers(insn: &Insn, dst: Abs, src: Abs) -> Result<Abs, Rule
     Ok(abstract_result(insn, dst, src))
 }
 
-/// Which way the instruction moves a pointer's offset, where it does.
+/// Returns the direction in which the instruction moves a pointer, if it can move one.
 pub(crate) fn direction_of(width: Width, op: BinaryOp) -> Option<Direction>
     ensures { result ≡ direction_of width op }
 {
@@ -64,7 +64,7 @@ pub(crate) fn direction_of(width: Width, op: BinaryOp) -> Option<Direction>
     }
 }
 
-/// An offset, where it is within the bounds; none lies outside of them.
+/// Checks that an offset is within the bounds; `None` is an offset that does not fit 64 bits.
 fn check_near(offset: Option<i64>) -> Result<i64, Rule>
     ensures { MatchOption offset (result ≡ Err Rule.PointerArithmetic) (λ offset. result ≡ check_near offset) }
 {
@@ -74,7 +74,7 @@ fn check_near(offset: Option<i64>) -> Result<i64, Rule>
     }
 }
 
-/// A pointer's offset once it was moved by a number, read as signed.
+/// Returns the offset of a pointer after it is moved by a number, read as signed.
 fn moved_offset(direction: Direction, offset: i64, by: u64) -> Result<i64, Rule>
     ensures { result ≡ check_near (moved_offset direction offset by) }
 {
@@ -85,7 +85,10 @@ fn moved_offset(direction: Direction, offset: i64, by: u64) -> Result<i64, Rule>
     }
 }
 
-/// A pointer into a part is moved by a known number; all else is arithmetic on numbers.
+/// Checks an arithmetic instruction and returns its result.
+///
+/// A pointer into a part (the context, the stack or a record) may move by a known number; any other operands must be
+/// numbers.
 pub(crate) fn check_arithmetic(
     direction: Option<Direction>,
     insn: &Insn,

@@ -1,4 +1,4 @@
-//! What is noted of the states that arrive at the units.
+//! The abstract states that arrive at each unit during the pass.
 
 ghost use Rattle.std.specs.Prelude.{◌≡◌, ◌≢◌, ◌<◌, ◌≤◌, ℕ, Some, IfOk, OnOk, vec_len};
 ghost use Rattle.rb_verifier.specs.AbstractStates.{along_jump};
@@ -8,19 +8,19 @@ use crate::{AbsState, join};
 use std::alloc::{AllocError, Global};
 use std::mem;
 
-/// What was noted of the states that arrive at a unit.
+/// The merge of the states that have arrived at a unit so far.
 #[derive(Drop)]
 pub(crate) enum Arrival {
-    /// None arrived yet.
+    /// No state has arrived yet.
     Nothing,
-    /// The least state above those that arrived.
+    /// The join of the states that arrived: the least state above all of them.
     Least(AbsState),
-    /// Two arrived with different references.
+    /// Two states with different references arrived.
     Differ,
 }
 
 #[inline(never)]
-/// One more state is noted, beside the least above those that arrived. It stands apart from the common case, the first arrival.
+/// Joins another arriving state with `least`. Kept out of line, because the common case is a single arrival.
 fn joined(least: &AbsState, state: AbsState) -> Result<Arrival, AllocError>
     ensures { IfOk result (IsMerged (Arrival.Least least.now) state) }
 {
@@ -32,7 +32,7 @@ fn joined(least: &AbsState, state: AbsState) -> Result<Arrival, AllocError>
 }
 
 #[inline(always)]
-/// Notes a state at the unit to which it flows, where there is one.
+/// Merges a state into the arrivals at its target, if there is a target.
 pub(crate) fn flow(
     arrivals: &mut Vec<Arrival>,
     target: Option<u32>,
@@ -56,8 +56,9 @@ pub(crate) fn flow(
 }
 
 #[inline(always)]
-/// Notes the state along a jump's edge at the unit to which it leads, where there is one: the one that is given, else a copy of
-/// the state along the other edge.
+/// Merges the state along a jump's edge into the arrivals at its target, if there is a target.
+///
+/// That state is `jump` if present, otherwise a copy of `next`, the state along the other edge.
 pub(crate) fn flow_jump(
     arrivals: &mut Vec<Arrival>,
     target: Option<u32>,
@@ -75,7 +76,7 @@ pub(crate) fn flow_jump(
 }
 
 #[inline(always)]
-/// Takes out what was noted at a unit.
+/// Removes and returns the arrival at a unit.
 pub(crate) fn take(arrivals: &mut Vec<Arrival>, unit: u32) -> Arrival
     requires { unit < vec_len arrivals.old }
     ensures noted { result ≡ noted_at arrivals.old.items unit }
@@ -84,7 +85,7 @@ pub(crate) fn take(arrivals: &mut Vec<Arrival>, unit: u32) -> Arrival
     mem::replace(&mut arrivals[unit as usize], Arrival::Nothing)
 }
 
-/// What is noted at the start: the entry state at the first unit, and nothing at the others.
+/// Returns the initial arrivals: the entry state at the first unit, and nothing at the others.
 pub(crate) fn first_arrivals(alloc: Global, units: u32) -> Result<Vec<Arrival>, AllocError>
     requires { 0 < units }
     ensures { IfOk result (λ arrivals. AreFirstArrivals units arrivals.items) }

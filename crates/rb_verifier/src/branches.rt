@@ -1,4 +1,4 @@
-//! What is known along both edges of a conditional jump.
+//! Abstract conditional jumps: the states along both edges.
 
 ghost use Rattle.std.specs.Prelude.{◌≡◌, IfErr};
 ghost use Rattle.rb_verifier.specs.Branches.{null_test_of, check_branch};
@@ -10,16 +10,16 @@ use crate::value::Abs;
 use crate::value_checks::{check_number, check_readable};
 use rb_insn::{Condition, Operand, Width};
 
-/// A test of a value against null.
+/// A comparison of a value with null.
 #[derive(Clone, Copy)]
 pub(crate) enum NullTest {
-    /// It jumps where the value is null.
+    /// Jumps if the value is null.
     JumpsIfNull,
-    /// It jumps where the value is not null.
+    /// Jumps if the value is not null.
     JumpsIfThere,
 }
 
-/// The test against null that a conditional jump is, where it is one.
+/// Returns the null test that a conditional jump performs, if it performs one.
 pub(crate) fn null_test_of(width: Width, condition: Condition, operand: Operand) -> Option<NullTest>
     ensures { result ≡ null_test_of width condition operand }
 {
@@ -30,7 +30,9 @@ pub(crate) fn null_test_of(width: Width, condition: Condition, operand: Operand)
     }
 }
 
-/// The test of a reservation tells each edge what it found; else both operands are numbers.
+/// Checks a conditional jump.
+///
+/// A null test of a reservation refines the state along each edge. Any other comparison needs two numbers.
 pub(crate) fn check_branch(
     test: Option<NullTest>,
     dst: Abs,

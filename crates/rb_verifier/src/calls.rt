@@ -1,4 +1,4 @@
-//! The calls of helpers: the checks of their arguments, and what is known after the call.
+//! Helper calls: the checks on their arguments, and the state after the call.
 
 ghost use Rattle.std.specs.Prelude.{◌≡◌, ◌<◌, length, IfErr};
 ghost use Rattle.rb_verifier.specs.HelperChecks.{after_answer, after_reserve, check_output, check_reserve, check_give_back, check_query, check_call};
@@ -19,7 +19,7 @@ use crate::value_checks::{
 use rb_insn::Reg;
 
 impl AbsState {
-    /// After a call: r0 holds the answer, and r1 to r5 hold nothing.
+    /// Sets the registers as a call leaves them: r0 holds the result, and r1 to r5 are unreadable.
     fn answer(&mut self, answer: Abs)
         ensures { self.new ≡ after_answer answer self.old }
     {
@@ -31,7 +31,7 @@ impl AbsState {
         self.put(Reg::R5, Abs::Unreadable);
     }
 
-    /// After the reservation by the CALL at a unit.
+    /// Adds the reference of a reservation by the CALL at `unit`, and sets the registers.
     fn add_reference(&mut self, unit: u32, ring: u32, size: u32)
         requires room { length self.old.held < 4 }
         requires earlier { AreEarlier unit self.old.held }
@@ -48,7 +48,7 @@ impl AbsState {
     }
 }
 
-/// output(ring, data, size, flags)
+/// Checks `output(ring, data, size, flags)`.
 fn check_output(limits: Limits, state: &mut AbsState) -> Result<Option<AbsState>, Rule>
     ensures effect { effect_left result state.new ≡ check_output limits state.old }
     ensures unchanged { IfErr result (λ _. state.new ≡ state.old) }
@@ -65,7 +65,7 @@ fn check_output(limits: Limits, state: &mut AbsState) -> Result<Option<AbsState>
     Ok(None)
 }
 
-/// reserve(ring, size, flags)
+/// Checks `reserve(ring, size, flags)`.
 fn check_reserve(unit: u32, state: &mut AbsState) -> Result<Option<AbsState>, Rule>
     requires { AreEarlier unit state.old.held }
     ensures effect { effect_left result state.new ≡ check_reserve unit state.old }
@@ -82,7 +82,7 @@ fn check_reserve(unit: u32, state: &mut AbsState) -> Result<Option<AbsState>, Ru
     Ok(None)
 }
 
-/// submit(record, flags) and discard(record, flags)
+/// Checks `submit(record, flags)` and `discard(record, flags)`.
 fn check_give_back(state: &mut AbsState) -> Result<Option<AbsState>, StepFault>
     ensures effect { IsLeft result state.new (check_give_back state.old) }
     ensures unchanged { IfErr result (λ _. state.new ≡ state.old) }
@@ -95,7 +95,7 @@ fn check_give_back(state: &mut AbsState) -> Result<Option<AbsState>, StepFault>
     Ok(None)
 }
 
-/// query(ring, what)
+/// Checks `query(ring, what)`.
 fn check_query(state: &mut AbsState) -> Result<Option<AbsState>, Rule>
     ensures effect { effect_left result state.new ≡ check_query state.old }
     ensures unchanged { IfErr result (λ _. state.new ≡ state.old) }
@@ -107,7 +107,7 @@ fn check_query(state: &mut AbsState) -> Result<Option<AbsState>, Rule>
     Ok(None)
 }
 
-/// The call of a helper at a unit.
+/// Checks a helper call at `unit`.
 pub(crate) fn check_call(
     limits: Limits,
     unit: u32,

@@ -1,4 +1,4 @@
-//! Which bytes of memory a pointer leads to.
+//! The bytes of memory that a pointer may access.
 
 ghost use Rattle.std.specs.Prelude.{◌≡◌, ◌^◌, ℕ, pos, negsuc, ◌≤ℤ◌, ◌+ℤ◌};
 ghost use Rattle.rb_verifier.specs.Extents.{contains_range, reaches};
@@ -7,10 +7,10 @@ use crate::limits::Limits;
 use crate::references::Held;
 use crate::value::Abs;
 
-/// The offset of the stack's first byte; the last one's is -1.
+/// The offset of the first byte of the stack; the last byte is at offset -1.
 const STACK_FIRST: i64 = -512;
 
-/// Whether so many bytes, from `by` behind an offset on, lie from a part's first byte on and before its end.
+/// Whether the `len` bytes at `offset + by` lie between the first byte of a part and its end.
 fn contains_range(first: i64, end: i64, offset: i64, by: i64, len: u64) -> bool
     requires first { negsuc 511 ≤ℤ first }
     requires end { end ≤ℤ pos (2 ^ 32) }
@@ -28,7 +28,8 @@ fn contains_range(first: i64, end: i64, offset: i64, by: i64, len: u64) -> bool
     len <= (end - from).unsigned_abs()
 }
 
-/// Whether so many bytes, from `by` behind a pointer on, lie in the part that it leads to. No other value leads to one.
+/// Whether the `len` bytes at `value + by` lie in the part that the pointer points to. False if `value` is not a
+/// pointer.
 pub(crate) fn reaches(limits: Limits, held: &Held, value: Abs, by: i64, len: u64) -> bool
     ensures { result ≡ reaches limits held.now value by len }
 {

@@ -19,7 +19,7 @@ pub enum Helper {
 }
 
 impl Helper {
-    /// The helper of a number, where there is one.
+    /// Returns the helper with this number, if there is one.
     pub fn from_number(number: u32) -> Option<Helper>
         ensures { result ≡ helper_of number }
     {
@@ -33,7 +33,7 @@ impl Helper {
         }
     }
 
-    /// The helper's number.
+    /// Returns the helper's number.
     pub fn number(self) -> u32
         ensures { result ≡ helper_number self }
     {

@@ -1,4 +1,4 @@
-//! The order of states, and the least state above two.
+//! The order of abstract states, and their join.
 
 ghost use Rattle.std.specs.Prelude.{◌≡◌, ◌≢◌, ◌↔◌, IsTrue, MatchOption, IfOk, IsErr};
 ghost use Rattle.rb_verifier.specs.KeptPointers.{all_data};
@@ -11,7 +11,7 @@ use crate::state::AbsState;
 use crate::value::Abs;
 use std::alloc::AllocError;
 
-/// Whether a value is a number, known or not.
+/// Whether an abstract value is a number, known or not.
 pub(crate) fn is_number(value: Abs) -> bool
     ensures { IsTrue result ↔ IsNumber value }
 {
@@ -21,7 +21,7 @@ pub(crate) fn is_number(value: Abs) -> bool
     }
 }
 
-/// Whether what the second value says holds wherever what the first says does.
+/// Whether `value` is below `upper`: every concrete value that `value` describes, `upper` describes too.
 pub(crate) fn is_below(value: Abs, upper: Abs) -> bool
     ensures { IsTrue result ↔ BelowValue value upper }
 {
@@ -32,7 +32,7 @@ pub(crate) fn is_below(value: Abs, upper: Abs) -> bool
     }
 }
 
-/// The least value above both.
+/// Returns the least abstract value above both.
 pub(crate) fn join_value(left: Abs, right: Abs) -> Abs
     ensures { IsJoinValue left right result }
 {
@@ -45,8 +45,8 @@ pub(crate) fn join_value(left: Abs, right: Abs) -> Abs
     }
 }
 
-/// Whether a state is below another: the references are the same, and what is known of each register and of each place of
-/// the stack is below.
+/// Whether a state is below another: the references are the same, and the abstract value of each register and of each
+/// place of the stack is below.
 pub fn below(state: &AbsState, upper: &AbsState) -> bool
     ensures { IsTrue result ↔ Below state.now upper.now }
 {
@@ -61,8 +61,9 @@ pub fn below(state: &AbsState, upper: &AbsState) -> bool
     state.places.are_below(&upper.places)
 }
 
-/// The least state above both; none exactly where the references differ. It takes memory only where the stack may keep
-/// pointers.
+/// Returns the join of two states, the least state above both, or `None` exactly if their references differ.
+///
+/// Allocates only if the stack may hold pointers.
 pub fn join(left: &AbsState, right: &AbsState) -> Result<Option<AbsState>, AllocError>
     ensures joined { IfOk result (λ answer. MatchOption answer (left.now.held ≢ right.now.held) (λ join. IsJoin left.now right.now join)) }
     ensures memory { IsErr result → ¬ ((left.now.places ≡ all_data) × (right.now.places ≡ all_data)) }

@@ -1,4 +1,4 @@
-//! The loads and stores of what is kept on the stack.
+//! Loads and stores of pointers that the program spills to the stack.
 
 ghost use Rattle.std.specs.Prelude.{◌≡◌, ◌+◌, ◌≤◌, ◌+ℤ◌, true, false, Some, Ok, Err, IfOk, IfErr};
 ghost use Rattle.rb_verifier.specs.Extents.{contains_range, stack_extent};
@@ -19,7 +19,7 @@ use crate::value_checks::{check_number, check_readable};
 const STACK_LEN: i64 = 512;
 
 #[tactic(auto, using(crate::proofs::Numbers::on_stack))]
-/// The offset `by` behind another, where so many bytes from there on lie on the stack.
+/// Returns `offset + by`, where the `len` bytes from there on lie on the stack.
 fn offset_behind(offset: i64, by: i64, len: u64) -> i64
     requires { contains_range stack_extent (offset +ℤ by) len ≡ true }
     ensures { result ≡ offset +ℤ by }
@@ -29,7 +29,8 @@ fn offset_behind(offset: i64, by: i64, len: u64) -> i64
 }
 
 #[tactic(auto, using(crate::proofs::Numbers::on_stack, crate::proofs::Numbers::byte_on_stack))]
-/// The byte of the stack that an offset names, counted from the stack's first, where so many bytes from there on lie on it.
+/// Returns the index of the stack byte at an offset, counted from the first byte of the stack. The `len` bytes from
+/// there on lie on the stack.
 fn stack_byte(offset: i64, len: u64) -> u64
     requires { contains_range stack_extent offset len ≡ true }
     ensures byte { stack_byte offset ≡ Some result }
@@ -39,7 +40,9 @@ fn stack_byte(offset: i64, len: u64) -> u64
     (offset + STACK_LEN) as u64
 }
 
-/// So many bytes, from `by` behind the pointer on, lie in its part: which byte of the stack is the first, where that is the part.
+/// Checks that the `len` bytes at `value + by` lie in the pointer's part.
+///
+/// Returns the index of the first byte if that part is the stack, and `None` for any other part.
 pub(crate) fn check_reach(
     limits: Limits,
     held: &Held,
@@ -61,7 +64,7 @@ pub(crate) fn check_reach(
     }
 }
 
-/// Bytes that are read as such are data.
+/// Checks that bytes that are read as data contain no part of a pointer.
 pub(crate) fn check_data(byte: Option<u64>, len: u64, places: &Places) -> Result<(), Rule>
     requires { LiesInside len byte }
     ensures { result ≡ check_data byte len (known_in places.now) }
@@ -72,7 +75,7 @@ pub(crate) fn check_data(byte: Option<u64>, len: u64, places: &Places) -> Result
     }
 }
 
-/// What a load of `len` bytes gives, from a byte of the stack or from another part.
+/// Returns the abstract value that a load of `len` bytes produces, from a byte of the stack or from another part.
 pub(crate) fn check_loaded(byte: Option<u64>, len: u64, places: &Places) -> Result<Abs, Rule>
     requires { LiesInside len byte }
     ensures { result ≡ check_loaded byte len (known_in places.now) }
@@ -86,7 +89,8 @@ pub(crate) fn check_loaded(byte: Option<u64>, len: u64, places: &Places) -> Resu
     Ok(Abs::Number)
 }
 
-/// What a store of a pointer leaves of the places: the one that has exactly the bytes keeps it, and no other bytes do.
+/// Updates the places for a store of a pointer: the place that has exactly these bytes holds it, and no other store of
+/// a pointer is allowed.
 fn keep_at(place: Option<u64>, value: Abs, places: &mut Places) -> Result<(), StepFault>
     requires place { IsPlaceOrNone place }
     requires pointer { is_data value ≡ false }
@@ -104,7 +108,7 @@ fn keep_at(place: Option<u64>, value: Abs, places: &mut Places) -> Result<(), St
 }
 
 #[tactic(auto, using(crate::proofs::Numbers::whole_inside))]
-/// What a store of `len` bytes of a value leaves of the places, to a byte of the stack or to another part.
+/// Updates the places for a store of `len` bytes of a value, to a byte of the stack or to another part.
 pub(crate) fn store_to(
     byte: Option<u64>,
     len: u64,

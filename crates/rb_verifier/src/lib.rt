@@ -1,14 +1,19 @@
-//! The verifier, for hosts that run programs of others: `verify` sweeps over a program once in unit order, and returns a
-//! `Verified` exactly where the program has a valid annotation (a state for each unit that its checks keep), else the
-//! lowest unit and the first rule that is broken there. A `Verified` keeps its annotation, and never gets stuck
-//! (`rb_semantics`). Time and memory are linear in the units: one abstract step for each instruction, and at most one
-//! join for each edge.
+//! The verifier, for hosts that run programs of others.
 //!
-//! The checks of one instruction are an abstract step over what is known of registers, of the stack and of held records: `step` is the first rule (V1
-//! to V15, `Rule`) that the instruction breaks, or what is known along each edge out of it; `join` is the least state above two, and
-//! `step_keeps_order` says that a step keeps the order. The abstract values, their order and the fifteen rules are this project's own profile. The rule
-//! on references is the kernel verifier's (Documentation/bpf/verifier.rst): a reserved record must be submitted or discarded
-//! on every path, and a reservation must be tested against null before its use.
+//! `verify` makes one pass over a program in unit order. It returns a `Verified` if and only if the program has a valid
+//! annotation, which is an abstract state for each unit under which all checks hold. Otherwise it returns the lowest
+//! unit that breaks a rule and the first rule broken there. A `Verified` keeps its annotation, and its program never
+//! gets stuck (`rb_semantics`). Time and memory are linear in the number of units: one abstract step for each
+//! instruction, and at most one join for each edge.
+//!
+//! The checks of one instruction are an abstract step over an `AbsState`, which describes the registers, the stack and
+//! the held records. `step` returns the first rule (V1 to V15, `Rule`) that the instruction breaks, or the state along
+//! each edge out of it. `join` returns the least state above two, and `step_keeps_order` states that a step is
+//! monotone.
+//!
+//! The abstract values, their order and the fifteen rules are this project's own profile. The rule on references is the
+//! kernel verifier's (Documentation/bpf/verifier.rst): a reserved record must be submitted or discarded on every path,
+//! and a reservation must be tested against null before its use.
 #![tactic(auto)]
 
 mod arithmetic;

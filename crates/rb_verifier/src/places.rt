@@ -1,4 +1,4 @@
-//! What is known of the places of the stack.
+//! The abstract contents of the stack.
 
 ghost use Rattle.std.specs.Prelude.{◌≡◌, ◌≤◌, ◌<◌, ◌+◌, ◌-◌, ◌↔◌, ℕ, IfOk, ◌≢◌, IsErr, IsTrue, true, false, length, slice_index_or};
 ghost use Rattle.rb_verifier.specs.AbstractValues.{BelowValue};
@@ -13,17 +13,19 @@ use crate::value::Abs;
 use std::alloc::{AllocError, Global};
 use std::marker::Model;
 
-/// The number of the stack's last place.
+/// The number of the last place of the stack.
 const LAST_PLACE: u64 = 63;
 
-/// What is known of the 64 places of the stack: of each, what is known of a register that loads it. Place 0 has the stack's first
-/// eight bytes. It takes memory for the places from the stack's end down to the lowest that may keep a pointer. Of a place
-/// with data it is never known which number they are.
+/// The abstract contents of the 64 *places* of the stack, its aligned 8-byte slots: for each, the abstract value of a
+/// register that loads it.
 ///
-/// Contracts see what is known of each place.
+/// Place 0 has the first eight bytes of the stack. The value of data is never tracked, so a place with data is a
+/// `Number`. Takes memory for the places from the end of the stack down to the lowest one that may hold a pointer.
+///
+/// Contracts see the abstract value of each place.
 #[derive(Debug, Drop)]
 pub struct Places {
-    /// The places from the last one down; those that are not listed have data.
+    /// The places from the last one down; places that are not listed hold data.
     items: Vec<Abs>,
 }
 
@@ -40,7 +42,7 @@ impl Model for Places {
     ghost invariant = { λ p. IsKeptList p.items.items };
 }
 
-/// The place that has exactly the `len` bytes from byte `at` on.
+/// Returns the place that has exactly the `len` bytes from byte `at` on.
 pub(crate) fn whole_place(at: u64, len: u64) -> Option<u64>
     ensures { result ≡ whole_place at len }
 {
@@ -51,7 +53,7 @@ pub(crate) fn whole_place(at: u64, len: u64) -> Option<u64>
     }
 }
 
-/// Whether a place has one of the `len` bytes from byte `at` on.
+/// Whether a place overlaps the `len` bytes from byte `at` on.
 fn touches(at: u64, len: u64, place: u64) -> bool
     requires { at + len ≤ 512 }
     ensures { result ≡ touches at len place }
@@ -59,7 +61,7 @@ fn touches(at: u64, len: u64, place: u64) -> bool
     0 < len && at / 8 <= place && place <= (at + len - 1) / 8
 }
 
-/// Whether each of these is a number.
+/// Whether all of these are `Number`.
 fn are_numbers(values: &[Abs]) -> bool
     ensures all { result ≡ true → (k : ℕ) → slice_index_or values.now k Abs.Number ≡ Abs.Number }
     ensures other { result ≡ false → (k : ℕ) × (k < length values.now) × (slice_index_or values.now k Abs.Number ≢ Abs.Number) }
@@ -73,7 +75,7 @@ fn are_numbers(values: &[Abs]) -> bool
 }
 
 impl Places {
-    /// Each place has data. It takes no memory.
+    /// Returns places that all hold data. Allocates nothing.
     pub(crate) fn data(alloc: Global) -> Places
         ensures { result ≡ all_data }
     {
@@ -82,7 +84,7 @@ impl Places {
         }
     }
 
-    /// Whether each place has data.
+    /// Whether every place holds data.
     fn have_data(&self) -> bool
         ensures all { result ≡ true → self.now ≡ all_data }
         ensures pointer { result ≡ false → MayKeepPointer self.now }
@@ -90,7 +92,7 @@ impl Places {
         are_numbers(self.items.as_slice())
     }
 
-    /// The same places. It takes memory only where one may keep a pointer.
+    /// Returns a copy of the places. Allocates only if one may hold a pointer.
     pub(crate) fn copy(&self) -> Result<Places, AllocError>
         ensures same { IfOk result (λ copy. copy ≡ self.now) }
         ensures memory { IsErr result → MayKeepPointer self.now }
@@ -102,7 +104,7 @@ impl Places {
         Ok(Places { items })
     }
 
-    /// What is known of a place: never a known number.
+    /// Returns the abstract value of a place. It is never a known number.
     pub fn get(&self, place: u64) -> Abs
         ensures known { result ≡ known_in self.now place }
         ensures value { IsPlaceValue result }
@@ -119,7 +121,7 @@ impl Places {
         }
     }
 
-    /// What is known of a place once another, or this one, keeps a value.
+    /// Returns the abstract value of place `here` after `place` is set to `value`.
     fn once_kept(&self, here: u64, place: u64, value: Abs) -> Abs
         requires { IsPlaceValue value }
         ensures known { result ≡ with_place place value (known_in self.now) here }
@@ -128,7 +130,7 @@ impl Places {
         if here == place { value } else { self.get(here) }
     }
 
-    /// What is known of a place once data was stored to the `len` bytes from byte `at` on.
+    /// Returns the abstract value of place `here` after data is stored to the `len` bytes from byte `at` on.
     fn once_stored(&self, here: u64, at: u64, len: u64) -> Abs
         requires { at + len ≤ 512 }
         ensures known { result ≡ with_data at len (known_in self.now) here }
@@ -141,7 +143,7 @@ impl Places {
         }
     }
 
-    /// How many places, from the last one down, may keep a pointer.
+    /// Returns how many places, from the last one down, may hold a pointer.
     fn count(&self) -> usize
         ensures few { result ≤ 64 }
         ensures others { (place : ℕ) → result + place ≤ 63 → known_in self.now place ≡ Abs.Number }
@@ -150,7 +152,8 @@ impl Places {
         self.items.len()
     }
 
-    /// The places, of which one keeps this, which is no known number: a place with data is a `Number`. It takes memory.
+    /// Returns a copy of the places in which `place` has this value, which must not be a known number: a place with
+    /// data is a `Number`. Allocates.
     pub fn with_place(&self, place: u64, value: Abs) -> Result<Places, AllocError>
         requires place { place ≤ 63 }
         requires value { IsPlaceValue value }
@@ -166,7 +169,7 @@ impl Places {
         Ok(Places { items })
     }
 
-    /// The places, of which those that have one of the `len` bytes from byte `at` on have data.
+    /// Returns a copy of the places in which those that overlap the `len` bytes from byte `at` on hold data.
     pub(crate) fn with_data(&self, at: u64, len: u64) -> Result<Places, AllocError>
         requires { at + len ≤ 512 }
         ensures stored { IfOk result (λ new. new ≡ listed_places (with_data at len (known_in self.now))) }
@@ -183,7 +186,7 @@ impl Places {
         Ok(Places { items })
     }
 
-    /// What is known of the places from a change on.
+    /// Returns the places after a change of a reference.
     pub(crate) fn changed(&self, change: Change) -> Result<Places, AllocError>
         ensures changed { IfOk result (λ new. new ≡ listed_places (λ place. place_after change (known_in self.now place))) }
         ensures memory { IsErr result → MayKeepPointer self.now }
@@ -199,7 +202,7 @@ impl Places {
         Ok(Places { items })
     }
 
-    /// The least above both, place by place.
+    /// Returns the least places above both, place by place.
     pub(crate) fn joined(&self, other: &Places) -> Result<Places, AllocError>
         ensures joined { IfOk result (λ join. (place : ℕ) → IsJoinValue (known_in self.now place) (known_in other.now place) (known_in join place)) }
         ensures memory { IsErr result → ¬ ((self.now ≡ all_data) × (other.now ≡ all_data)) }
@@ -216,7 +219,7 @@ impl Places {
         Ok(Places { items })
     }
 
-    /// Whether each place is below.
+    /// Whether each place is below that of `upper`.
     pub(crate) fn are_below(&self, upper: &Places) -> bool
         ensures { IsTrue result ↔ ((place : ℕ) → BelowValue (known_in self.now place) (known_in upper.now place)) }
     {
@@ -229,7 +232,7 @@ impl Places {
         true
     }
 
-    /// Whether one of the `len` bytes from byte `at` on may be a pointer's.
+    /// Whether one of the `len` bytes from byte `at` on may belong to a pointer.
     pub(crate) fn may_keep(&self, at: u64, len: u64) -> bool
         requires { at + len ≤ 512 }
         ensures { result ≡ may_keep at len (known_in self.now) }

@@ -1,4 +1,4 @@
-//! What a null test and the giving back of a record tell of every register, place of the stack and reference.
+//! How a null test, and the submit or discard of a record, change every register, place of the stack and reference.
 
 ghost use Rattle.std.specs.Prelude.{◌≡◌, map, IfOk, IsErr};
 ghost use Rattle.rb_verifier.specs.KeptPointers.{MayKeepPointer};
@@ -9,19 +9,19 @@ use crate::state::AbsState;
 use crate::value::Abs;
 use std::alloc::AllocError;
 
-/// What becomes known of a reservation, by its id.
+/// A change of a reservation, identified by its id.
 #[derive(Clone, Copy)]
 pub(crate) enum Change {
-    /// It was null.
+    /// The null test found null.
     IsNull(u32),
-    /// It was a record.
+    /// The null test found a record.
     IsThere(u32),
-    /// Its record was given back.
+    /// The record was submitted or discarded.
     GivenBack(u32),
 }
 
 impl Abs {
-    /// What is known of a value from then on.
+    /// Returns the abstract value after the change.
     fn changed(self, change: Change) -> Abs
         ensures { result ≡ after_change change self }
     {
@@ -33,7 +33,7 @@ impl Abs {
         }
     }
 
-    /// What is known of a place of the stack from then on: where null is kept it has data.
+    /// Returns the abstract value of a stack place after the change: a place that holds a null has data.
     pub(crate) fn changed_place(self, change: Change) -> Abs
         ensures { result ≡ place_after change self }
     {
@@ -44,7 +44,7 @@ impl Abs {
     }
 }
 
-/// What is known of every register from then on.
+/// Returns the abstract values of all registers after the change.
 fn changed_values(mut values: [Abs; 11], change: Change) -> [Abs; 11]
     ensures { result ≡ map (after_change change) values }
 {
@@ -55,7 +55,7 @@ fn changed_values(mut values: [Abs; 11], change: Change) -> [Abs; 11]
 }
 
 impl AbsState {
-    /// Where the reservation was null.
+    /// Returns the state in which the reservation was null.
     pub(crate) fn where_null(&self, id: u32) -> Result<AbsState, AllocError>
         ensures changed { IfOk result (λ state. state ≡ null_state id self.now) }
         ensures memory { IsErr result → MayKeepPointer self.now.places }
@@ -70,7 +70,7 @@ impl AbsState {
         })
     }
 
-    /// Where the reservation was a record.
+    /// Returns the state in which the reservation was a record.
     pub(crate) fn where_there(&self, id: u32) -> Result<AbsState, AllocError>
         ensures changed { IfOk result (λ state. state ≡ there_state id self.now) }
         ensures memory { IsErr result → MayKeepPointer self.now.places }
@@ -84,7 +84,7 @@ impl AbsState {
         })
     }
 
-    /// Once the record was given back.
+    /// Returns the state after the record was submitted or discarded.
     pub(crate) fn once_given_back(&self, id: u32) -> Result<AbsState, AllocError>
         ensures changed { IfOk result (λ state. state ≡ given_back_state id self.now) }
         ensures memory { IsErr result → MayKeepPointer self.now.places }

@@ -1,4 +1,4 @@
-//! The references that are held.
+//! The references that a program holds.
 
 ghost use Rattle.std.specs.Prelude.{◌≡◌, ◌<◌, ◌≤◌, ◌++◌, [], ◌∷◌, ◌↔◌, IsTrue, length, filter, find, map};
 ghost use Rattle.rb_verifier.specs.References.{AreEarlier, IsAscending, is_full, is_empty, has_id, other_than, tested_in};
@@ -7,16 +7,16 @@ use smallvec::SmallVec;
 use std::alloc::Global;
 use std::marker::Model;
 
-/// A record that was reserved and has to be given back.
+/// A reference to a record that was reserved and must be submitted or discarded.
 #[derive(Clone, Copy, Debug, PartialEq, Eq, Default)]
 pub struct Reference {
-    /// The unit of the CALL that reserved it.
+    /// The unit of the CALL that reserved the record.
     pub id: u32,
     /// The ring's number.
     pub ring: u32,
     /// The record's length in bytes.
     pub size: u32,
-    /// Whether it was tested against null.
+    /// Whether the reservation was tested against null.
     pub sure: bool,
 }
 
@@ -40,7 +40,7 @@ impl Model for Held {
 }
 
 impl Reference {
-    /// The reference, tested against null where it has this id.
+    /// Returns the reference, marked as tested against null if it has this id.
     fn tested(self, id: u32) -> Reference
         ensures { result ≡ tested_in id self }
     {
@@ -53,7 +53,7 @@ impl Reference {
 }
 
 impl Held {
-    /// No references.
+    /// Returns an empty set of references.
     pub fn new(alloc: Global) -> Self
         ensures { result ≡ [] }
     {
@@ -62,7 +62,7 @@ impl Held {
         }
     }
 
-    /// The same references. It takes no memory, since they are inline.
+    /// Returns a copy of the references. Allocates nothing, because they are stored inline.
     pub(crate) fn copy(&self) -> Self
         ensures { result ≡ self.now }
     {
@@ -75,7 +75,7 @@ impl Held {
         Held { items }
     }
 
-    /// The references, in ascending order of their ids.
+    /// Returns the references in ascending order of their ids.
     pub fn as_slice(&self) -> &[Reference]
         ensures items { result.now ≡ self.now }
         ensures few { length result.now ≤ 4 }
@@ -84,7 +84,7 @@ impl Held {
         self.items.as_slice()
     }
 
-    /// The reference of an id, where it is held.
+    /// Returns the reference with this id, if it is held.
     pub fn get(&self, id: u32) -> Option<Reference>
         ensures { result ≡ find (has_id id) self.now }
     {
@@ -117,7 +117,7 @@ impl Held {
         self.as_slice() == other.as_slice()
     }
 
-    /// These references and a later one.
+    /// Returns a copy with `reference` appended; its id must be the greatest.
     pub fn added(&self, reference: Reference) -> Held
         requires room { length self.now < 4 }
         requires later { AreEarlier reference.id self.now }
@@ -128,7 +128,7 @@ impl Held {
         held
     }
 
-    /// The references of other ids.
+    /// Returns a copy without the reference with this id.
     pub(crate) fn without(&self, id: u32) -> Held
         ensures { result ≡ filter (other_than id) self.now }
     {
@@ -141,7 +141,7 @@ impl Held {
         Held { items }
     }
 
-    /// The references, that of this id tested against null.
+    /// Returns a copy in which the reference with this id is marked as tested against null.
     pub(crate) fn tested(&self, id: u32) -> Held
         ensures { result ≡ map (tested_in id) self.now }
     {

@@ -3,7 +3,7 @@
 use crate::Rule;
 use thiserror::Error;
 
-/// Why a program is refused.
+/// The reason why a program is refused.
 #[derive(Clone, Copy, Debug, PartialEq, Eq, Error)]
 pub enum Refusal {
     /// The program breaks a rule.
@@ -14,7 +14,7 @@ pub enum Refusal {
         /// The first rule that is broken there.
         rule: Rule,
     },
-    /// There was no memory for the verification; this says nothing of the program.
+    /// Memory for the verification could not be allocated; this says nothing about the program.
     #[error("out of memory")]
     Memory,
 }

@@ -7,63 +7,63 @@ ghost use Rattle.rb_verifier.specs.declared.rule.StepFault.TheVariants as fault;
 use std::alloc::AllocError;
 use thiserror::Error;
 
-/// A rule that a program breaks (own profile).
+/// A rule that a program can break (own profile).
 #[derive(Clone, Copy, Debug, PartialEq, Eq, Error)]
 pub enum Rule {
-    /// V1
+    /// V1: reads a register that holds nothing readable.
     #[error("V1: a register that holds nothing is read")]
     Unreadable,
-    /// V2
+    /// V2: writes the frame pointer r10.
     #[error("V2: the frame pointer r10 is written")]
     FramePointerWritten,
-    /// V3
+    /// V3: does arithmetic that is not allowed on a pointer.
     #[error("V3: arithmetic that a pointer doesn't allow")]
     PointerArithmetic,
-    /// V4
+    /// V4: accesses memory outside the context, the stack and the held records.
     #[error("V4: an access outside of every part of memory")]
     OutsidePart,
-    /// V5
+    /// V5: writes to the context.
     #[error("V5: the context is written")]
     ContextWritten,
-    /// V6
+    /// V6: stores a pointer other than to a whole place of the stack.
     #[error("V6: a pointer is stored")]
     PointerStored,
-    /// V7
+    /// V7: passes an argument that the helper does not accept.
     #[error("V7: an argument that the helper doesn't take")]
     HelperArgument,
-    /// V8
+    /// V8: passes a size that is not known, or is too large.
     #[error("V8: a size that is not known, or too large")]
     SizeNotKnown,
-    /// V9
+    /// V9: holds more than four references.
     #[error("V9: more than four references are held")]
     TooManyReferences,
-    /// V10
+    /// V10: exits while it holds a reference.
     #[error("V10: a reference is left at the exit")]
     ReferenceLeft,
-    /// V11
+    /// V11: two edges arrive at the same unit with different references.
     #[error("V11: different references arrive along two edges")]
     ReferencesDiffer,
-    /// V12
+    /// V12: exits with a pointer as the result.
     #[error("V12: the result is a pointer")]
     ResultNotNumber,
-    /// V13
+    /// V13: compares a pointer.
     #[error("V13: a pointer is compared")]
     PointerCompared,
-    /// V14
+    /// V14: uses a reservation before it is tested against null.
     #[error("V14: a reservation is used that was not tested against null")]
     NullNotTested,
-    /// V15
+    /// V15: calls an unknown helper.
     #[error("V15: a helper that is not known is called")]
     UnknownHelper,
 }
 
-/// Why there is no step.
+/// Why an abstract step fails.
 #[derive(Clone, Copy, Debug, PartialEq, Eq, Error)]
 pub enum StepFault {
     /// The instruction breaks a rule.
     #[error("{0}")]
     Rule(Rule),
-    /// There was no memory for what is known of the stack; this says nothing of the instruction.
+    /// Memory for the abstract stack could not be allocated; this says nothing about the instruction.
     #[error("out of memory")]
     Memory,
 }
@@ -85,7 +85,7 @@ impl From<AllocError> for StepFault {
 }
 
 impl Rule {
-    /// The rule's number, 1 to 15.
+    /// Returns the rule's number, 1 to 15.
     pub fn number(self) -> u8
         ensures { result ≡ rule_number self }
     {

@@ -1,4 +1,4 @@
-//! What is known before an instruction.
+//! Abstract states.
 
 ghost use Rattle.std.specs.Prelude.{◌≡◌, IfOk, IsErr};
 ghost use Rattle.rb_verifier.specs.AbstractStates.{value_in, put, entry_state, effect_on_both};
@@ -10,29 +10,32 @@ use crate::value::Abs;
 use rb_insn::Reg;
 use std::alloc::{AllocError, Global};
 
-/// What is known before an instruction: of each register, which references are held, and of each place of the stack.
+/// The abstract state before an instruction: the abstract value of each register, the held references, and the contents
+/// of the stack.
 #[derive(Debug, Drop)]
 pub struct AbsState {
-    /// What is known of r0 to r10.
+    /// The abstract values of r0 to r10.
     pub values: [Abs; 11],
     /// The references that are held.
     pub held: Held,
-    /// What is known of the places of the stack.
+    /// The abstract contents of the stack.
     pub places: Places,
 }
 
-/// What is known along each edge out of an instruction. Where it has one edge alone, both say the same.
+/// The states along the two edges out of an instruction. If it has only one edge, both are equal.
 #[derive(Debug, Drop)]
 pub struct Effect {
-    /// Along the edge to the next instruction.
+    /// The state along the edge to the next instruction.
     pub next: AbsState,
-    /// Along the edge to the jump's target.
+    /// The state along the edge to the jump's target.
     pub jump: AbsState,
 }
 
 impl AbsState {
-    /// What is known at entry: r1 points to the context, r10 to the stack, the other registers hold nothing, no reference is
-    /// held, and the stack has data. The references are inline, so this takes no memory.
+    /// Returns the state at entry: r1 points to the context, r10 to the stack, the other registers are unreadable, no
+    /// reference is held, and the stack holds data.
+    ///
+    /// Allocates nothing; the references are stored inline.
     pub fn entry(alloc: Global) -> Self
         ensures { result ≡ entry_state }
     {
@@ -46,7 +49,7 @@ impl AbsState {
         }
     }
 
-    /// The same state. It takes memory only where the stack may keep pointers.
+    /// Returns a copy of the state. Allocates only if the stack may hold pointers.
     pub fn copy(&self) -> Result<Self, AllocError>
         ensures same { IfOk result (λ copy. copy ≡ self.now) }
         ensures memory { IsErr result → MayKeepPointer self.now.places }
@@ -59,7 +62,7 @@ impl AbsState {
         })
     }
 
-    /// What is known of a register.
+    /// Returns the abstract value of a register.
     pub(crate) fn value(&self, register: Reg) -> Abs
         ensures { result ≡ value_in self.now register.number }
     {
@@ -67,14 +70,14 @@ impl AbsState {
     }
 
     #[inline(always)]
-    /// A register gets a value.
+    /// Sets the abstract value of a register.
     pub(crate) fn put(&mut self, register: Reg, value: Abs)
         ensures { self.new ≡ put self.old register.number value }
     {
         self.values[register.index()] = value;
     }
 
-    /// The same along both edges.
+    /// Returns the effect that has this state along both edges.
     pub(crate) fn along_both(self) -> Result<Effect, AllocError>
         ensures same { IfOk result (λ effect. effect ≡ effect_on_both self) }
         ensures memory { IsErr result → MayKeepPointer self.places }

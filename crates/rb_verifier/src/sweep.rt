@@ -1,4 +1,4 @@
-//! One pass over a program in unit order.
+//! The verifier's pass over a program in unit order.
 
 ghost use Rattle.std.specs.Prelude.{◌≡◌, ◌+◌, ◌++◌, [], ◌∷◌, ◌<◌, ℕ, Some, length, IfOk, IfErr, OnOk};
 ghost use Rattle.rb_program.specs.Program.{unit_count, slot_at};
@@ -15,7 +15,7 @@ use rb_program::{Shape, jump_target, next_unit};
 use std::alloc::Global;
 
 #[inline(always)]
-/// Keeps a copy of a state, which is put together where it is kept.
+/// Appends a copy of a state. Copies it field by field, so that the copy is built in place.
 fn keep(states: &mut Vec<AbsState>, state: &AbsState) -> Result<(), Refusal>
     ensures pushed { OnOk result (states.new.items ≡ states.old.items ++ state.now ∷ []) }
     ensures memory { IfErr result (λ refusal. refusal ≡ Refusal.Memory) }
@@ -34,7 +34,8 @@ fn keep(states: &mut Vec<AbsState>, state: &AbsState) -> Result<(), Refusal>
     }
 }
 
-/// One turn of the pass, at an instruction: its state is settled and kept, and what the instruction makes of it flows on along its edges.
+/// Processes the instruction at `unit`: stores the join of the states that arrived, and propagates its effect along its
+/// edges.
 fn visit(
     limits: Limits,
     shape: &Shape,
@@ -76,7 +77,7 @@ fn visit(
     Ok(())
 }
 
-/// A unit where no instruction begins gets the entry state, which nothing reads.
+/// Stores the entry state, which nothing reads, for a unit at which no instruction begins.
 fn sweep_over(alloc: Global, states: &mut Vec<AbsState>) -> Result<(), Refusal>
     ensures pushed { OnOk result (states.new.items ≡ states.old.items ++ entry_state ∷ []) }
     ensures memory { IfErr result (λ refusal. refusal ≡ Refusal.Memory) }
@@ -87,7 +88,7 @@ fn sweep_over(alloc: Global, states: &mut Vec<AbsState>) -> Result<(), Refusal>
     }
 }
 
-/// One turn of the pass, at a unit.
+/// Processes one unit.
 fn sweep_unit(
     alloc: Global,
     limits: Limits,
@@ -108,7 +109,7 @@ fn sweep_unit(
     }
 }
 
-/// The pass: the states of the least valid annotation, one for each unit, or the first rule that is broken.
+/// Returns the states of the least valid annotation, one for each unit, or the first rule that is broken.
 pub(crate) fn annotate(
     alloc: Global,
     limits: Limits,

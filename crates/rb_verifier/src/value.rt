@@ -1,9 +1,9 @@
-//! What is known of a register's value.
+//! Abstract values.
 
-/// What is known of a register's value (own profile). Offsets count bytes, and ids are units.
+/// The abstract value of a register (own profile). Offsets count bytes, and ids are units.
 #[derive(Clone, Copy, Debug, PartialEq, Eq)]
 pub enum Abs {
-    /// Nothing is known, and it may not be read.
+    /// Anything; the register must not be read.
     Unreadable,
     /// A number.
     Number,
@@ -13,10 +13,10 @@ pub enum Abs {
     Ctx(i64),
     /// A pointer to this offset of the stack, whose last byte has offset -1.
     Stack(i64),
-    /// The ring of this number.
+    /// The ring with this number.
     Ring(u32),
-    /// What the CALL at this unit gave: null, or a pointer to the record's first byte.
+    /// The result of the `reserve` call at this unit: null, or a pointer to the record's first byte.
     Perhaps(u32),
-    /// A pointer to this offset of the record that the CALL at this unit gave.
+    /// A pointer to this offset of the record that the call at this unit returned.
     Record(u32, i64),
 }

@@ -1,4 +1,4 @@
-//! The checks of one value. Each returns the first rule that is broken.
+//! Checks on one abstract value. Each returns the first rule that is broken.
 
 ghost use Rattle.std.specs.Prelude.{◌≡◌};
 ghost use Rattle.rb_verifier.specs.ValueChecks.{check_writable, check_readable, check_number, check_tested, check_not_context, check_inside, check_ring, check_part_pointer, check_known_size, check_record_size, check_record_start};
@@ -10,10 +10,10 @@ use crate::rule::Rule;
 use crate::value::Abs;
 use rb_insn::Reg;
 
-/// The greatest length of a record.
+/// The greatest length of a record in bytes.
 const MAX_RECORD: u64 = 1 << 26;
 
-/// The frame pointer r10 is not written.
+/// Checks that the register is not the frame pointer r10, which must not be written.
 pub(crate) fn check_writable(register: Reg) -> Result<(), Rule>
     ensures { result ≡ check_writable register }
 {
@@ -24,7 +24,7 @@ pub(crate) fn check_writable(register: Reg) -> Result<(), Rule>
     }
 }
 
-/// A register may be read.
+/// Checks that the register may be read.
 pub(crate) fn check_readable(value: Abs) -> Result<(), Rule>
     ensures { result ≡ check_readable value }
 {
@@ -34,7 +34,7 @@ pub(crate) fn check_readable(value: Abs) -> Result<(), Rule>
     }
 }
 
-/// A register may be read, and holds a number; the given rule is returned for a pointer.
+/// Checks that the register may be read and holds a number. Returns `at_pointer` if it holds a pointer.
 pub(crate) fn check_number(at_pointer: Rule, value: Abs) -> Result<(), Rule>
     ensures { result ≡ check_number at_pointer value }
 {
@@ -45,7 +45,7 @@ pub(crate) fn check_number(at_pointer: Rule, value: Abs) -> Result<(), Rule>
     }
 }
 
-/// A register may be read, and is no reservation that was not tested against null.
+/// Checks that the register may be read and is not a reservation that was not tested against null.
 pub(crate) fn check_tested(value: Abs) -> Result<(), Rule>
     ensures { result ≡ check_tested value }
 {
@@ -56,7 +56,7 @@ pub(crate) fn check_tested(value: Abs) -> Result<(), Rule>
     }
 }
 
-/// A register may be read, and does not point to the context, which is not written.
+/// Checks that the register may be read and does not point to the context, which must not be written.
 pub(crate) fn check_not_context(value: Abs) -> Result<(), Rule>
     ensures { result ≡ check_not_context value }
 {
@@ -67,7 +67,8 @@ pub(crate) fn check_not_context(value: Abs) -> Result<(), Rule>
     }
 }
 
-/// So many bytes, from `by` behind the pointer on, lie in its part; no other value leads to a part.
+/// Checks that the `len` bytes at `value + by` lie in the pointer's part. Fails if the value is not a pointer into a
+/// part.
 pub(crate) fn check_inside(
     limits: Limits,
     held: &Held,
@@ -84,7 +85,7 @@ pub(crate) fn check_inside(
     }
 }
 
-/// The argument's ring.
+/// Returns the number of the argument's ring.
 pub(crate) fn check_ring(value: Abs) -> Result<u32, Rule>
     ensures { result ≡ check_ring value }
 {
@@ -95,7 +96,7 @@ pub(crate) fn check_ring(value: Abs) -> Result<u32, Rule>
     }
 }
 
-/// The argument is a pointer into a part.
+/// Checks that the argument is a pointer into a part.
 pub(crate) fn check_part_pointer(value: Abs) -> Result<(), Rule>
     ensures { result ≡ check_part_pointer value }
 {
@@ -105,7 +106,7 @@ pub(crate) fn check_part_pointer(value: Abs) -> Result<(), Rule>
     }
 }
 
-/// The number that the argument is known to be.
+/// Returns the argument, which must be a known number.
 pub(crate) fn check_known_size(value: Abs) -> Result<u64, Rule>
     ensures { result ≡ check_known_size value }
 {
@@ -116,7 +117,7 @@ pub(crate) fn check_known_size(value: Abs) -> Result<u64, Rule>
     }
 }
 
-/// The number that the argument is known to be, where a record may have that length.
+/// Returns the argument, which must be a known number and a valid length of a record.
 pub(crate) fn check_record_size(value: Abs) -> Result<u32, Rule>
     ensures { result ≡ check_record_size value }
 {
@@ -127,7 +128,7 @@ pub(crate) fn check_record_size(value: Abs) -> Result<u32, Rule>
     }
 }
 
-/// The record to whose first byte the argument points.
+/// Returns the id of the record whose first byte the argument points to.
 pub(crate) fn check_record_start(value: Abs) -> Result<u32, Rule>
     ensures { result ≡ check_record_start value }
 {

@@ -12,11 +12,13 @@ use crate::verified::Verified;
 use rb_program::Shape;
 use std::alloc::Global;
 
-/// Verifies a program for a context of so many bytes and so many rings. It returns the verified program exactly where the
-/// program has a valid annotation, else the first rule that it breaks; out of memory may be returned in place of either.
+/// Verifies a program for a context of `ctx_len` bytes and for `rings` rings.
 ///
-/// One pass in unit order: an abstract step for each instruction, and at most one join for each edge. Time and memory are
-/// linear in the units; a state is kept for each.
+/// Returns the verified program if and only if the program has a valid annotation, otherwise the first rule that it
+/// breaks. A failed allocation may replace either result.
+///
+/// Makes one pass in unit order: an abstract step for each instruction, and at most one join for each edge. Time and
+/// memory are linear in the number of units; one state is stored for each.
 pub fn verify(alloc: Global, shape: Shape, ctx_len: u32, rings: u32) -> Result<Verified, Refusal>
     requires context { ctx_len ≤ 65536 }
     requires rings { rings ≤ 16 }

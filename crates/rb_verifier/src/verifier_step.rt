@@ -1,4 +1,4 @@
-//! One abstract step: the table of checks and effects.
+//! The abstract step: the checks and the effect of each instruction.
 
 ghost use Rattle.std.specs.Prelude.{◌≡◌, ◌<◌, ◌^◌, ℕ, IfErr};
 ghost use Rattle.rb_insn.specs.inner.InsnGroups.{IsLoadOrStore};
@@ -24,7 +24,7 @@ use crate::value_checks::{
 };
 use rb_insn::{Insn, Operand, Reg, Width};
 
-/// A register gets this value, whatever it held.
+/// Sets a register to this value, whatever it held.
 fn check_assign(dst: Reg, value: Abs, state: &mut AbsState) -> Result<Option<AbsState>, Rule>
     ensures effect { effect_left result state.new ≡ check_assign dst value state.old }
     ensures unchanged { IfErr result (λ _. state.new ≡ state.old) }
@@ -34,7 +34,7 @@ fn check_assign(dst: Reg, value: Abs, state: &mut AbsState) -> Result<Option<Abs
     Ok(None)
 }
 
-/// A 64-bit move, which copies pointers too.
+/// Checks a 64-bit move, which copies pointers too.
 fn check_copy(dst: Reg, src: Reg, state: &mut AbsState) -> Result<Option<AbsState>, Rule>
     ensures effect { effect_left result state.new ≡ check_copy dst src state.old }
     ensures unchanged { IfErr result (λ _. state.new ≡ state.old) }
@@ -46,7 +46,7 @@ fn check_copy(dst: Reg, src: Reg, state: &mut AbsState) -> Result<Option<AbsStat
     Ok(None)
 }
 
-/// A move that computes, from a number in src.
+/// Checks a move that computes its result from a number in src.
 fn check_convert(
     insn: &Insn,
     dst: Reg,
@@ -64,7 +64,7 @@ fn check_convert(
     Ok(None)
 }
 
-/// Arithmetic on the number in dst alone.
+/// Checks arithmetic on the number in dst alone.
 fn check_unary(insn: &Insn, dst: Reg, state: &mut AbsState) -> Result<Option<AbsState>, Rule>
     requires { IsArithmetic insn.now }
     ensures effect { effect_left result state.new ≡ check_unary insn.now dst state.old }
@@ -77,7 +77,7 @@ fn check_unary(insn: &Insn, dst: Reg, state: &mut AbsState) -> Result<Option<Abs
     Ok(None)
 }
 
-/// Arithmetic on dst and a second operand.
+/// Checks arithmetic on dst and a second operand.
 fn check_binary(
     direction: Option<Direction>,
     insn: &Insn,
@@ -99,7 +99,7 @@ fn check_binary(
     Ok(None)
 }
 
-/// The ring of a number.
+/// Checks a load of the ring with this number.
 fn check_ring_load(
     limits: Limits,
     dst: Reg,
@@ -117,7 +117,7 @@ fn check_ring_load(
     Ok(None)
 }
 
-/// A load of so many bytes: of a place of the stack as a whole, or of data.
+/// Checks a load: of a whole place of the stack, or of data.
 fn check_load(
     limits: Limits,
     dst: Reg,
@@ -138,7 +138,7 @@ fn check_load(
     Ok(None)
 }
 
-/// A store of so many bytes of a value: of a number, or of a pointer that a place of the stack keeps.
+/// Checks a store of a value: of a number, or of a pointer to a whole place of the stack.
 fn check_store(
     limits: Limits,
     base: Reg,
@@ -158,7 +158,7 @@ fn check_store(
     Ok(None)
 }
 
-/// The end of the program.
+/// Checks the exit of the program.
 fn check_exit(state: &mut AbsState) -> Result<Option<AbsState>, Rule>
     ensures effect { effect_left result state.new ≡ check_exit state.old }
     ensures unchanged { IfErr result (λ _. state.new ≡ state.old) }
@@ -172,7 +172,7 @@ fn check_exit(state: &mut AbsState) -> Result<Option<AbsState>, Rule>
 }
 
 #[tactic(auto, unfolding(crate::specs::VerifierChecks::abstract_step))]
-/// One abstract step of an arithmetic instruction.
+/// Does the abstract step of an arithmetic instruction.
 fn step_arithmetic(insn: &Insn, state: &mut AbsState) -> Result<Option<AbsState>, Rule>
     requires { IsArithmetic insn.now }
     ensures effect { (limits : Limits) (unit : ℕ) → effect_left result state.new ≡ abstract_step limits unit insn.now state.old }
@@ -209,7 +209,7 @@ fn step_arithmetic(insn: &Insn, state: &mut AbsState) -> Result<Option<AbsState>
 }
 
 #[tactic(auto, unfolding(crate::specs::VerifierChecks::abstract_step))]
-/// One abstract step of a load or a store.
+/// Does the abstract step of a load or a store.
 fn step_load_or_store(
     limits: Limits,
     insn: &Insn,
@@ -265,10 +265,13 @@ fn step_load_or_store(
 }
 
 #[tactic(auto, unfolding(crate::specs::VerifierChecks::abstract_step))]
-/// One abstract step of the instruction at a unit, in place: the state becomes what is known along the edge to the next
-/// instruction, and what is known along a jump's edge is the result where it differs; or the first rule that the instruction
-/// breaks, and then the state is unchanged; or `Memory`, and then too. The references that are held were reserved at earlier units.
-/// It takes memory only where the stack may keep pointers, and constant time.
+/// Does the abstract step of the instruction at `unit`, in place.
+///
+/// On success, `state` becomes the state along the edge to the next instruction; the result is the state along the
+/// jump's edge if that differs. An error is the first rule that the instruction breaks, or `Memory`, and leaves `state`
+/// unchanged. The held references must have been reserved at earlier units.
+///
+/// Allocates only if the stack may hold pointers. Takes constant time.
 pub fn step_in_place(
     limits: Limits,
     unit: u32,
@@ -311,9 +314,10 @@ pub fn step_in_place(
     }
 }
 
-/// One abstract step of the instruction at a unit: what is known along each edge out of it, or the first rule that it
-/// breaks; or `Memory`. The references that are held were reserved at earlier units. It takes memory only where the stack may
-/// keep pointers, and constant time.
+/// Returns the abstract effect of the instruction at `unit`: the state along each edge out of it.
+///
+/// An error is the first rule that the instruction breaks, or `Memory`. The held references must have been reserved at
+/// earlier units. Allocates only if the stack may hold pointers. Takes constant time.
 pub fn step(limits: Limits, unit: u32, insn: &Insn, state: &AbsState) -> Result<Effect, StepFault>
     requires { AreEarlier unit state.now.held }
     ensures { IsStep state.now result (abstract_step limits unit insn.now state.now) }

@@ -1,4 +1,4 @@
--- Each turn of an actor keeps what holds of a world.
+-- Every actor's turn preserves the invariant of worlds.
 use Rattle.std.proofs.Common.{◌≡◌, ℕ, ◌<◌, List, [], ◌∷◌, ◌++◌, append-nil, Option, Some, None, length, refl, sym, ap, subst, ◌∙◌, inl, inr, arith}
 use Rattle.rb_semantics.specs.declared.value.Value.{Value}
 use Rattle.rb_semantics.specs.declared.value.Value.TheVariants.{Number}
@@ -44,7 +44,7 @@ module _ (handed : ℕ → Handed) (old new : World) (kept : IsKept handed old) 
       more : (s : ℕ) → handed s ≡ handed s ++ handed_by s on
       more s = sym (append-nil (handed s)) ∙ ap (λ l. handed s ++ l) (sym (none s))
 
-  -- the worker hands the bytes of a record over
+  -- the worker hands over the bytes of a record
   handing : (r p : ℕ) (bytes : List ℕ) (world : World) → event ≡ HandedOver r w p bytes → new ≡ world → AfterTurn (Worker w) old (table_with r (handed r ++ (p, w, bytes) ∷ []) handed) world → Turned
   handing r p bytes world is e h =
       subst (λ d. AfterTurn (Worker w) old (λ s. handed s ++ handed_by s d) new) (sym is) (subst (λ f. AfterTurn (Worker w) old f new) (λ i s. more s i) (subst (AfterTurn (Worker w) old (table_with r (handed r ++ (p, w, bytes) ∷ []) handed)) (sym e) h))
@@ -61,7 +61,7 @@ module _ (handed : ℕ → Handed) (old new : World) (kept : IsKept handed old) 
   leaves : (call : HelperCall) (t : State) → Step (Asks call t) → Leaves s call t
   leaves call t e = subst (EffectKeeps s) e (step_keeps (old.workers w).subject.program s)
 
-  -- an answer after which the worker holds what it held
+  -- an answer after which the worker holds the same records
   unmoved : (call : HelperCall) (t : State) (v : Value) (r : ℕ) (b : WorldRing) → Step (Asks call t) → t.memory.records ≡ s.memory.records → CanStep (old.workers w).subject (with_answer v t) → Keeps old.worker_count (ledger (handed r) b) × SameBusy (old.rings r).ring.history b.ring.history
       → event ≡ Went → new ≡ with_ring r b (with_worker w (record (old.workers w) { state = with_answer v t }) old) → Turned
   unmoved call t v r b e same next book told is =
@@ -158,7 +158,7 @@ module _ (handed : ℕ → Handed) (old new : World) (kept : IsKept handed old) 
 still-kept : (handed : ℕ → Handed) (world : World) → IsKept handed world → IsKept (λ r. handed r ++ []) world
 still-kept handed world kept = subst (λ f. IsKept f world) (λ i r. sym (append-nil (handed r)) i) kept
 
--- a worker that does not run any more
+-- a worker that no longer runs
 pub idle-turn : (handed : ℕ → Handed) (old new : World) (w : ℕ) (status : WorkerStatus) → IsKept handed old → w < old.worker_count → (old.workers w).status ≡ status → (status ≡ Running → ⊥) → new ≡ old → AfterTurn (Worker w) old (λ r. handed r ++ []) new
 idle-turn handed old new w status kept inside is still e = subst (AfterTurn (Worker w) old (λ r. handed r ++ [])) (sym e) (record {
   kept = still-kept handed old kept;

@@ -1,4 +1,4 @@
--- Consumers that come often enough behind the last worker's turn take all.
+-- Consumers that have enough turns after the last worker's turn take everything.
 use Rattle.std.proofs.Common.{◌≡◌, ◌≢◌, ℕ, suc, ◌+◌, ◌≤◌, cond, List, [], ◌∷◌, length, refl, sym, ap, subst, ◌∙◌, ◌⊎◌, inl, inr, arith, length-append}
 use Rattle.std.specs.List.{All, filter_map}
 use Rattle.std.specs.Prelude.{map}
@@ -29,7 +29,7 @@ use Rattle.rb_world.proofs.WholeRuns.{AfterRun, run, opening, opening-reached, c
 use Rattle.rb_world.proofs.RingTurns.{granted_count, granted-more}
 use Rattle.rb_world.proofs.RingRuns.{IsLegalRing, TakesOf, RingTurn, Quietly, ByTake, kept-at, along}
 
--- ---- how many records were granted, taken and are left
+-- ---- the numbers of records that were granted, that were taken, and that remain
 
 abbrev taken_count : WorldRing → ℕ
 taken_count b = length (filter_map taken_position b.taken)
@@ -81,7 +81,7 @@ grants-of-work first world actors events opens all h r =
 
 -- ---- takes
 
--- so many records were taken of a ring, or all that were granted
+-- at least this many records were taken from a ring, or all that were granted
 abbrev Enough : ℕ → WorldRing → Type 0
 Enough n b = (n ≤ taken_count b) ⊎ (grants_in b ≡ taken_count b)
 

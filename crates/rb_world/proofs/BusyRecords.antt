@@ -1,4 +1,4 @@
--- How an entry_program_state changes which records are busy.
+-- How an entry changes which records are busy.
 use Rattle.std.proofs.Common.{◌≡◌, ◌≢◌, ℕ, zero, suc, ◌<◌, ◌≤◌, Bool, true, false, cond, ◌||◌, List, [], ◌∷◌, ◌++◌, refl, sym, ap, subst, ◌∙◌, ◌⊎◌, inl, inr, arith}
 use Rattle.std.specs.Prelude.{count_by}
 use Rattle.std.specs.List.{Contains}
@@ -16,7 +16,7 @@ use Rattle.rb_history.proofs.Lists.{list_any-snoc}
 use Rattle.rb_history.proofs.Exact.{granted-below, granted-from}
 use Rattle.rb_history.proofs.Laws.{KeptAs, kept-from-legal}
 
--- ---- a record is busy where it was granted and neither submitted nor discarded
+-- ---- a record is busy if it was granted and neither submitted nor discarded
 
 pub record IsOpen (h : List Entry) (q : ℕ) : Type 0 where
   pub not_submitted : is_submitted_at h q ≡ false
@@ -38,7 +38,7 @@ or-none : (a b : Bool) → (a || b) ≡ false → (a ≡ false) × (b ≡ false)
 or-none true b e = absurd (cc)
 or-none false b e = (refl, e)
 
--- an entry_program_state that does not settle the record leaves it busy
+-- an entry that does not end the record leaves it busy
 pub busy-push : (h : List Entry) (e : Entry) (q w k n : ℕ) → IsBusy h q w k n → is_submit q e ≡ false → is_discard q e ≡ false → IsBusy (h ++ e ∷ []) q w k n
 busy-push h e q w k n b s d =
     let o = busy-open h q b.busy in
@@ -50,7 +50,7 @@ busy-push h e q w k n b s d =
       });
     }
 
--- a record that is busy behind an entry_program_state was not settled by it, and was busy before or is granted by it
+-- a record that is busy after an entry was not ended by it, and was busy before or is granted by it
 pub record WasBusy (h : List Entry) (e : Entry) (q w k n : ℕ) : Type 0 where
   pub not_submitted : is_submit q e ≡ false
   pub not_discarded : is_discard q e ≡ false
@@ -70,7 +70,7 @@ busy-pop h e q w k n b =
       ];
     }
 
--- ---- what a call does to the busy records
+-- ---- the effect of a call on the busy records
 
 pub record SameBusy (h g : List Entry) : Type 0 where
   pub stay : (q w k n : ℕ) → IsBusy h q w k n → IsBusy g q w k n
@@ -152,7 +152,7 @@ less-dis h p = record {
       elim (was.before) [ inl there ↦ (ne, there) | inr is ↦ absurd (not-res (Dis p) v k m q refl is) ];
 }
 
--- a record that is made and submitted at once
+-- a record that is made and submitted in one call
 pub same-output : (r : Setup) (h : List Entry) (p w k n : ℕ) → IsLegal r h → p ≡ producer_of r.start h → SameBusy h ((h ++ Res w k n p ∷ []) ++ Sub p ∷ [])
 same-output r h p w k n l at =
     let m = more-res r h p w k n l at in
@@ -162,7 +162,7 @@ same-output r h p w k n l at =
       back = λ q v j i b. let one = s.back q v j i b in elim (m.back q v j i one.1) [ inl was ↦ was | inr is ↦ absurd (one.0 is.0) ];
     }
 
--- ---- one grant at a position
+-- ---- one grant at each position
 
 count_some : {X : Type 0} (t : X → Bool) (xs : List X) (x : X) → Contains xs x → t x ≡ true → 1 ≤ count_by t xs
 count_some t [] x (i, lt, is) e = absurd (omega arith)
@@ -180,7 +180,7 @@ only t (z ∷ xs) x y one (suc i, lt, is) e (zero, low, at) f =
     let rest : 1 ≤ count_by t xs = count_some t xs x (i, omega arith, is) e in let whole = count_by-cons t z xs in absurd (omega arith)
 only t (z ∷ xs) x y one (suc i, lt, is) e (suc j, low, at) f = let whole = count_by-cons t z xs in only t xs x y (omega arith) (i, omega arith, is) e (j, omega arith, at) f
 
--- what is granted at a position has one worker, one serial and one length
+-- a grant at a position has one worker, one serial and one length
 pub one-grant : (r : Setup) (h : List Entry) (p w k n v j m : ℕ) → IsLegal r h → Contains h (Res w k n p) → Contains h (Res v j m p) → (w ≡ v) × (k ≡ j) × (n ≡ m)
 one-grant r h p w k n v j m l a b =
     let kept : KeptAs r h = kept-from-legal r h l in

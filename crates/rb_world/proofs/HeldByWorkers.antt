@@ -1,4 +1,4 @@
--- What a worker holds once a call was with_answer, and the answers of a ring in a book that has more.
+-- The records that a worker holds after a call was answered, and a ring's answers if more was taken from it.
 use Rattle.std.proofs.Common.{◌≡◌, ℕ, List, [], ◌∷◌, ◌++◌, Option, Some, None, refl, sym, ap, subst, ◌∙◌, inl, inr, append-nil}
 use Rattle.std.specs.Prelude.{option_map}
 use Rattle.std.proofs.lemmas.Bool.{cases_eq, eq-eqb, ne_eqb}
@@ -33,7 +33,7 @@ module _ {X : Type 0} (f : WorldRecord → X) where
     ]
   ]
 
-  -- a record that was given back is held no more
+  -- a record that was submitted or discarded is no longer held
   pub shown-given : (id : ℕ) (rs : Held) (i : ℕ) → shown (others id rs) i ≡ table_with id None (shown rs) i
   shown-given id [] i = elim (cases_eq i id) [ inl e ↦ rw (eq-eqb i id e) refl | inr ne ↦ rw (ne_eqb i id ne) refl ]
   shown-given id (r ∷ rs) i = elim (cases_eq r.0 id) [
@@ -47,7 +47,7 @@ module _ {X : Type 0} (f : WorldRecord → X) where
     ])
   ]
 
--- ---- a step of a untaken_ring ring, in its book
+-- ---- a step of a ring from which nothing was taken, with what was taken from it
 
 module _ (taken : List Taken) where
   abbrev pub book : Ring → WorldRing
@@ -71,7 +71,7 @@ module _ (taken : List Taken) where
   outputs-within w bytes flags NoRoom v v' h = (h.0, moved-within _ v v' h.1)
   outputs-within w bytes flags (Made p k) v v' h = (h.0, h.1, h.2, moved-within _ v v' h.3)
 
--- ---- what is so of each record that a worker holds
+-- ---- properties of every record that a worker holds
 
 module _ (P : Mark → Type 0) where
   abbrev Marked : Held → Type 0
@@ -107,10 +107,10 @@ module _ (P : Mark → Type 0) where
   pub all-rewritten : (rs ss : Held) → ((id : ℕ) → shown mark_of ss id ≡ shown mark_of rs id) → AllHeld P rs → AllHeld P ss
   all-rewritten rs ss same all = unmarked ss (λ id q e. marked rs all id q (sym (same id) ∙ e))
 
--- what was held before was held before
+-- the records held before were held before
 pub held-were : (rs : Held) → AllHeld (WasHeld rs) rs
 held-were rs id x e = (id, x, e, refl)
 
--- whatever is written into a record
+-- writing into a record does not change its mark
 pub mark-stays : (x : WorldRecord) (w : List ℕ) → mark_of (record x { reservation = record x.reservation { granted = record x.reservation.granted { bytes = in_place_of x.reservation.granted.bytes w } } }) ≡ mark_of x
 mark-stays x w = ap (λ n. record { ring = x.ring; worker = x.reservation.granted.worker; hand = x.reservation.hand; out = out_record x.reservation.granted.pos x.reservation.granted.serial n }) (long-as x.reservation.granted.bytes w)

@@ -1,4 +1,4 @@
--- What workers hold stays out in their hands, turn after turn.
+-- The records that workers hold stay out in their hands, in every turn.
 use Rattle.std.proofs.Common.{◌≡◌, ℕ, ◌<◌, List, [], ◌∷◌, Some, length, map, get_or, set, refl, sym, ap, subst, ◌∙◌, inl, inr, get_or-set_same, get_or-set_other}
 use Rattle.std.proofs.lemmas.Bool.{cases_eq}
 use Rattle.rb_history.specs.Calls.{IsBusy}
@@ -34,7 +34,7 @@ use Rattle.rb_world.proofs.WholeTurns.{consumer-sound, keeper-sound, ring-shown}
 abbrev Held : Type 0
 Held = List (ℕ × WorldRecord)
 
--- a record that is given back frees its hand
+-- the end of a record frees its hand
 pub ended-frees : (earlier : List Entry) (old new : HandRing) (ending : RecordEnd) (hand : ℕ) (r : Granted) → IsKept earlier old.ring.chapter → HasHands old → EndsFromHand ending hand r old new → StaysOut new.hands old.hands
 ended-frees earlier old new Submit hand r kept has h =
     let b = out-below earlier old kept has hand r h.was_out in
@@ -76,7 +76,7 @@ module _ (rings : List KeptRing) (r : ℕ) (s s' : KeptRing) (there : s ≡ get_
     | inr else ↦ same-keeps (get_or rings j no_kept_ring) (get_or (set rings r s') j no_kept_ring) (ap hands_shown (get_or-set_other rings r j s' no_kept_ring else))
   ]
 
-  -- what is out at that ring is out among all
+  -- what is out at that ring is out at one of the rings
   pub out-here : (m : Mark) → m.ring ≡ r → hand_at (hands_shown s') m.worker m.hand ≡ Some m.out → IsOutIn (books_of (set rings r s')) m
   out-here m is out =
       let now : get_or (books_of (set rings r s')) m.ring [] ≡ hands_shown s' =
@@ -89,7 +89,7 @@ module _ (rings : List KeptRing) (r : ℕ) (s s' : KeptRing) (there : s ≡ get_
 -- ---- a world
 
 module _ (old new : WorldValue) (sound : IsSoundWorld (whole_world new)) (long : length new.rings ≡ length old.rings) (each : KeepsEachInHand old.rings new.rings) where
-  -- what was out in its hand before the turn, and is held after it, is out in it
+  -- what was out in its hand before the turn, and is held after it, is still out in it
   pub still-out : (w : ℕ) (m : MachineState WorldRecord) → w < length new.machines → m ≡ get_or new.machines w m → (id : ℕ) (x : WorldRecord) → held_record id m.records ≡ Some x → IsOutIn (books_of old.rings) (mark_of x) → IsOutIn (books_of new.rings) (mark_of x)
   still-out w m low is id x held out =
       let own = sound.fitting.own w m low is id x held in
@@ -121,7 +121,7 @@ worker-in-hand old rings w m m' all low is sound long each holds j k below there
           still-out old new sound long each j k below there id x held (all j k (subst (λ n. j < n) (set-length old.machines w m') below) stood id x held)
     ]
 
--- the turn of another, which leaves all hands
+-- a turn of another actor, which leaves all hands unchanged
 pub all-in-hand : (old : WorldValue) (rings : List KeptRing) → AllInHand old → books_of rings ≡ books_of old.rings → AllInHand (record { rings = rings; machines = old.machines })
 all-in-hand old rings all same w m low is id x held = subst (λ books. IsOutIn books (mark_of x)) (sym same) (all w m low is id x held)
 

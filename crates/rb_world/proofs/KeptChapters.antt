@@ -1,4 +1,4 @@
--- The chapters of a world's ring bind, whatever its turns.
+-- The chapters of a world's ring bind after any turns.
 use Rattle.std.proofs.Common.{◌≡◌, ℕ, ◌<◌, List, [], ◌∷◌, ◌++◌, length, refl, sym, ap, subst, ◌∙◌}
 use Rattle.rb_history.specs.declared.answers.Taken.{Taken}
 use Rattle.rb_history.specs.RoomRule.{Setup}
@@ -34,7 +34,7 @@ same-has s new taken has same kept = record {
   room = kept.room;
 }
 
--- its chapter was handed out, and kept behind the others
+-- its chapter was handed out, and appended to the others
 pub next-has : (s : KeptRing) (new : TaggedRing) (out : Chapter) → KeepsChapters s → HandsOut s.ring.state.ring new.state.ring out → KeepsChapters (record s { ring = new; chapters = s.chapters ++ out ∷ [] })
 next-has s new out has h =
     let kept = (calls-keep (joined s.chapters) s.ring.state.ring new.state.ring (kept-of s has)).hands_out out h in
@@ -43,7 +43,7 @@ next-has s new out has h =
       room = kept.room;
     }
 
--- bound, they are the whole history that the world shows
+-- chapters that bind are the whole history that the world shows
 pub bound-of : (v : WorldValue) (r : ℕ) → r < length v.rings → Binds (ring_at v r).chapters (ring_at v r).ring.state.ring.chapter → IsBound (ring_at v r).chapters (ring_at v r).ring.state.ring.chapter ((world_of v).rings r).ring.history
 bound-of v r low binds =
     let s = ring_at v r in

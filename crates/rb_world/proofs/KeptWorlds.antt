@@ -1,4 +1,4 @@
--- What holds of a world between turns, and how a change of one worker and one ring keeps it.
+-- The invariant of a world between turns, and how a change of one worker and one ring preserves it.
 use Rattle.std.proofs.Common.{◌≡◌, ◌≢◌, ℕ, ◌<◌, Option, Some, None, refl, sym, ap, subst, ◌∙◌, ◌⊎◌, inl, inr}
 use Rattle.rb_semantics.specs.Soundness.{CanStep}
 use Rattle.rb_history.specs.Calls.{IsBusy}
@@ -11,13 +11,14 @@ use Rattle.rb_world.proofs.RingSteps.{Handed, ledger, Keeps}
 abbrev pub BusyAt : (ℕ → WorldRing) → (r p w k n : ℕ) → Type 0
 BusyAt rings r p w k n = IsBusy (rings r).ring.history p w k n
 
--- a record that a worker has in its memory, with so many bytes, is one that it holds, and busy there
+-- a record of n bytes in a worker's memory is one that the worker holds, and is busy at its ring
 abbrev pub Tied : (ℕ → WorldRing) → ℕ → Option ℕ → Option RecordPlace → Type 0
 Tied rings w None None = Unit {0}
 Tied rings w (Some n) (Some spot) = BusyAt rings spot.ring spot.pos w spot.serial n
 Tied rings w _ _ = ⊥
 
--- a worker that runs can take its next step; each record in its memory is a busy one of its own, each another one
+-- a running worker can take its next step; each record in its memory is a busy record of its own, and no two are the
+-- same
 pub record Runs (rings : ℕ → WorldRing) (w : ℕ) (x : WorkerState) : Type 0 where
   pub can_step : CanStep x.subject x.state
   pub tied : (id : ℕ) → Tied rings w (size_of id x.state.memory.records) (x.held id)
@@ -33,11 +34,11 @@ IsIn Strayed rings w x = ⊥
 abbrev pub IsSound : (ℕ → WorldRing) → ℕ → WorkerState → Type 0
 IsSound rings w x = IsIn x.status rings w x
 
--- a worker that runs holds the record of a ring at a position
+-- a running worker holds the record of a ring at a position
 abbrev pub HasIt : WorkerState → (r p k : ℕ) → Type 0
 HasIt x r p k = (x.status ≡ Running) × ((id : ℕ) × HoldsRecord x id r p k)
 
--- what holds of a world between turns
+-- the invariant of a world between turns
 pub record IsKept (handed : ℕ → Handed) (world : World) : Type 0 where
   pub workers : (w : ℕ) → w < world.worker_count → IsSound world.rings w (world.workers w)
   pub covered : (r p w k n : ℕ) → BusyAt world.rings r p w k n → (w < world.worker_count) × HasIt (world.workers w) r p k
@@ -63,7 +64,7 @@ tied-none rings w None None t e = refl
 tied-none rings w None (Some spot) t e = absurd t
 tied-none rings w (Some n) held t e = absurd (cc)
 
--- where the records of the worker at that place stay busy, it stays tied
+-- it stays tied if the worker's records at that place stay busy
 pub tied-stays : (old new : ℕ → WorldRing) (w : ℕ) (size : Option ℕ) (held : Option RecordPlace) → ((spot : RecordPlace) (n : ℕ) → held ≡ Some spot → BusyAt old spot.ring spot.pos w spot.serial n → BusyAt new spot.ring spot.pos w spot.serial n)
     → Tied old w size held → Tied new w size held
 tied-stays old new w None None stays t = tt
@@ -73,20 +74,20 @@ tied-stays old new w (Some n) (Some spot) stays t = stays spot n refl t
 
 -- ---- one worker and one ring change
 
--- what the change of a ring does to the busy records of a worker
+-- the effect of a ring's change on a worker's busy records
 pub record StayOf (old new : WorldRing) (v : ℕ) : Type 0 where
   pub stay : (p k n : ℕ) → IsBusy old.ring.history p v k n → IsBusy new.ring.history p v k n
   pub back : (p k n : ℕ) → IsBusy new.ring.history p v k n → IsBusy old.ring.history p v k n
 
 module _ (rings : ℕ → WorldRing) (r : ℕ) (b : WorldRing) where
-  -- busy records of the tables before and after
+  -- busy records before the change are busy after it
   pub placed-stay : (v : ℕ) → ((p k n : ℕ) → IsBusy (rings r).ring.history p v k n → IsBusy b.ring.history p v k n) → (s p k n : ℕ) → BusyAt rings s p v k n → BusyAt (table_with r b rings) s p v k n
   placed-stay v stay s p k n h = elim (eq_cases s r) [
     | inl same ↦ subst (λ (x : WorldRing). IsBusy x.ring.history p v k n) (sym (placed-here r b rings s same.1)) (stay p k n (subst (λ x. BusyAt rings x p v k n) same.1 h))
     | inr else ↦ subst (λ (x : WorldRing). IsBusy x.ring.history p v k n) (sym (placed-else r b rings s else.1)) h
   ]
 
-  -- where a record is busy after
+  -- a record that is busy after the change, by whether its ring is the one that changed
   pub placed-back : (s p v k n : ℕ) → BusyAt (table_with r b rings) s p v k n → ((s ≡ r) × IsBusy b.ring.history p v k n) ⊎ ((s ≢ r) × BusyAt rings s p v k n)
   placed-back s p v k n h = elim (eq_cases s r) [
     | inl same ↦ inl (same.1, subst (λ (x : WorldRing). IsBusy x.ring.history p v k n) (placed-here r b rings s same.1) h)
@@ -96,7 +97,7 @@ module _ (rings : ℕ → WorldRing) (r : ℕ) (b : WorldRing) where
   pub placed-there : (p v k n : ℕ) → IsBusy b.ring.history p v k n → BusyAt (table_with r b rings) r p v k n
   placed-there p v k n h = subst (λ (x : WorldRing). IsBusy x.ring.history p v k n) (sym (placed-here r b rings r refl)) h
 
-  -- a worker whose busy records stay is as sound as before
+  -- a worker whose busy records stay busy keeps its invariant
   pub sound-stays : (v : ℕ) (x : WorkerState) (status : WorkerStatus) → ((p k n : ℕ) → IsBusy (rings r).ring.history p v k n → IsBusy b.ring.history p v k n) → IsIn status rings v x → IsIn status (table_with r b rings) v x
   sound-stays v x Running stay h = record {
     can_step = h.can_step;
@@ -107,8 +108,8 @@ module _ (rings : ℕ → WorldRing) (r : ℕ) (b : WorldRing) where
   sound-stays v x Halted stay h = h
   sound-stays v x Strayed stay h = h
 
--- the world after the change is kept, where that is so of its ring and its worker, and where the busy records of the other
--- workers stay
+-- the world keeps its invariant if the changed ring and worker satisfy theirs, and if the other workers' busy records
+-- stay busy
 pub kept-changed : (handed : ℕ → Handed) (world : World) (w : ℕ) (y : WorkerState) (r : ℕ) (b : WorldRing) (g : Handed) → IsKept handed world → Keeps world.worker_count (ledger g b)
     → ((v : ℕ) → v ≢ w → StayOf (world.rings r) b v) → (w < world.worker_count → IsSound (table_with r b world.rings) w y)
     → ((s p k n : ℕ) → BusyAt (table_with r b world.rings) s p w k n → (w < world.worker_count) × HasIt y s p k)
@@ -137,7 +138,7 @@ kept-changed handed world w y r b g a book others sound covers = record {
   ];
 }
 
--- ---- a change that is none
+-- ---- no change
 
 pub placed-same : {X : Type 0} (i : ℕ) (f : ℕ → X) → table_with i (f i) f ≡ f
 placed-same i f = λ k j. same j k

@@ -1,4 +1,4 @@
--- Lists that are gone through, element by element.
+-- Lists that a loop traverses element by element.
 use Rattle.std.proofs.Common.{◌≡◌, ℕ, ◌+◌, ◌<◌, ◌≤◌, List, [], ◌∷◌, ◌++◌, length, take, get_or, false, refl, sym, ap, subst, arith}
 use Rattle.std.specs.Prelude.{All, ◌==◌}
 use Rattle.std.specs.List.{AllZip}
@@ -6,11 +6,11 @@ use Rattle.std.proofs.lemmas.List.{take_more, take_all}
 use Rattle.std.proofs.lemmas.List.Elements.{All-more}
 
 module _ {X : Type 0} (P : X → Type 0) (xs : List X) (i : ℕ) where
-  -- one more that is so
+  -- one more element satisfies P
   pub all-more : (d : X) → i < length xs → P (get_or xs i d) → All P (take i xs) → All P (take (i + 1) xs)
   all-more d low holds so_far = All-more P xs i d low so_far holds
 
-  -- all of them
+  -- all elements do
   pub all-done : length xs ≤ i → All P (take i xs) → All P xs
   all-done high so_far = subst (All P) (take_all i xs high) so_far
 

@@ -1,4 +1,4 @@
--- What the answers of a shelf are, and what fits together after a turn.
+-- The effect of a ring's answers on a machine, and what fits together after a turn.
 use Rattle.std.proofs.Common.{◌≡◌, ℕ, ℤ, ◌<◌, ◌≤◌, List, [], ◌∷◌, ◌++◌, Some, None, length, replicate, get_or, set, refl, sym, ap, subst, ◌∙◌, inl, inr, get_or-set_same, get_or-set_other, arith}
 use Rattle.std.specs.Prelude.{option_map}
 use Rattle.std.proofs.lemmas.Bool.{cases_eq}
@@ -37,7 +37,7 @@ Held = List (ℕ × WorldRecord)
 pub held-same : (old new : M) → new.records ≡ old.records → held_by new ≡ held_by old
 held-same old new e = ap (λ (rs : Held). λ id. option_map place_of (held_record id rs)) e
 
--- a machine that was with_answer goes on as the model's worker
+-- a machine that got an answer continues as the model's worker does
 pub resumed : (old new : M) (held : HeldRecords) (outcome : Resumption) → IsResumedTo outcome new → (outcome ≡ Strays → new.state ≡ old.state) → new.program ≡ old.program → held_by new ≡ held
     → worker_of new ≡ worker_after outcome (record (worker_of old) { held = held; status = Running })
 resumed old new held (Resumes t) h stays p q = λ i. record { subject = p i; state = h.0 i; held = q i; status = (ap status_of_phase h.1) i }
@@ -91,20 +91,20 @@ module _ (w : ℕ) (s : WorldRing) (v v' : Ring) (items : List Taken) (is : reco
         by_how NoRoom g h = refused-by NoRoom h goes records refl refl
         by_how (Made p k) g h = absurd g
 
--- what a reserve gave is of the worker, and zeros
+-- the record that a reserve returned belongs to the worker and is filled with zeros
 pub given-parts : (v v' : Ring) (w len flags : ℕ) (x : Granted) → IsReserved v v' w len flags (Some x) → (x.worker ≡ w) × (x.bytes ≡ replicate len 0)
 given-parts v v' w len flags x (BadFlags, g, h) = absurd g
 given-parts v v' w len flags x (Unlogged, g, h) = absurd g
 given-parts v v' w len flags x (NoRoom, g, h) = absurd g
 given-parts v v' w len flags x (Made p k, g, h) = (ap (λ (y : Granted). y.worker) g, ap (λ (y : Granted). y.bytes) g)
 
--- there is place for it
+-- the machine has a free place for it
 pub no-record : (m : M) (len : ℕ) (x : WorldRecord) → m.phase ≡ phase.Waiting (asked.Reserve len) → IsSteady m.phase m → m.state.memory.records ≡ record_bytes_in (λ (r : WorldRecord). r.reservation.granted.bytes) m.records → x.reservation.granted.bytes ≡ replicate len 0
     → held_record m.state.unit m.records ≡ None
 no-record m len x waits steady shows zeros =
     (place_for (λ (r : WorldRecord). r.reservation.granted.bytes) m.program (asked.Reserve len) (given.Granted x) m.records m.state shows (steady_waiting m.phase (asked.Reserve len) m waits steady) zeros).1
 
--- ---- what fits
+-- ---- preserving `IsFitting`
 
 pub lawful-of : (old : M) (call : HelperCall) (t : State) → old.phase ≡ phase.Ready → IsSteady old.phase old → next_step old.program.program old.state ≡ Asks call t → IsLawful old.program call
 lawful-of old call t ready steady step = (step_asks old.program old.state t call (steady_ready old.phase old ready steady) step).lawful

@@ -1,4 +1,4 @@
--- What a world is that was opened.
+-- The state of a world that was just opened.
 use Rattle.std.proofs.Common.{◌≡◌, ℕ, ◌+◌, ◌<◌, ◌≤◌, List, [], ◌∷◌, ◌++◌, None, Some, map, length, get_or, refl, sym, ap, subst, ◌∙◌, arith}
 use Rattle.std.specs.Prelude.{All}
 use Rattle.std.specs.List.{AllZip}
@@ -37,7 +37,7 @@ pub length-opened : (n k : ℕ) (rings : List RingSetup) → length (opened_ring
 length-opened n k [] = refl
 length-opened n k (s ∷ rings) = ap ℕ.suc (length-opened n (k + 1) rings)
 
--- one more is opened, which has the next number
+-- one more ring is opened, with the next number
 pub opened-push : (n k : ℕ) (xs : List RingSetup) (s : RingSetup) → opened_rings n k (xs ++ s ∷ []) ≡ opened_rings n k xs ++ opened_kept_ring n (k + length xs) s ∷ []
 opened-push n k [] s = let same : k ≡ k + 0 = omega arith in ap (λ m. opened_kept_ring n m s ∷ []) same
 opened-push n k (x ∷ xs) s =
@@ -49,7 +49,7 @@ tagged-at n k [] r low = absurd (omega arith)
 tagged-at n k (s ∷ rings) ℕ.zero low = omega arith
 tagged-at n k (s ∷ rings) (ℕ.suc r) low = tagged-at n (k + 1) rings r (omega arith) ∙ omega arith
 
--- what a machine that was started is, wherever it stands
+-- the state of a machine that was just started, at any index
 started-at : (xs : List WorkerSetup) (ms : List (MachineState WorldRecord)) (n w : ℕ) (m : MachineState WorldRecord) → AllZip IsStarted xs ms → All (λ x. x.program.now.rings ≤ n) xs → w < length ms → m ≡ get_or ms w m → (m.program.rings ≤ n) × (m.records ≡ [])
 started-at [] [] n w m h all low is = absurd (omega arith)
 started-at [] (y ∷ ms) n w m h all low is = absurd h

@@ -1,4 +1,4 @@
--- Which call a worker's turn answered, and why it came to no record.
+-- The call that a worker's turn answered, and why it got no record.
 use Rattle.std.proofs.Common.{◌≡◌, ◌≢◌, ℕ, ◌<◌, ◌≤◌, List, length, set, get_or, Some, refl, sym, ap, subst, ◌∙◌, get_or-set_same}
 use Rattle.rb_semantics.specs.ProgramStates.{State}
 use Rattle.rb_semantics.specs.HelperCalls.{HelperCall, Reserve, Output}
@@ -13,7 +13,7 @@ use Rattle.rb_world.proofs.ShownWorlds.{at-default}
 pub same-some : {A : Type 0} (a b : A) → Some a ≡ Some b → a ≡ b
 same-some a b e = cc
 
--- the ring of a number, and once it is another
+-- the ring with a number, after it was replaced
 pub hands-there : (rings : List KeptRing) (r : ℕ) (s : KeptRing) → r < length rings → s ≡ get_or rings r s → hands_at rings r ≡ s.ring.state
 hands-there rings r s low there = ap (λ (u : KeptRing). u.ring.state) (sym (at-default rings r s no_kept_ring low there))
 
@@ -34,7 +34,7 @@ IsRecordCall call = ⊥
 same-call : (a b : HelperCall) (s t : State) → Asks a s ≡ Asks b t → a ≡ b
 same-call a b s t e = cc
 
--- only a worker whose machine is ready runs
+-- only a worker whose machine is ready is running
 pub runs-ready : (p : Phase) → status_of_phase p ≡ Running → p ≡ phase.Ready
 runs-ready phase.Ready e = refl
 runs-ready (phase.Waiting asked) e = absurd (cc)
@@ -42,11 +42,11 @@ runs-ready (phase.Exited n) e = absurd (cc)
 runs-ready phase.Strayed e = absurd (cc)
 
 module _ (w : ℕ) (x : WorkerState) (old new : List KeptRing) where
-  -- a worker that does not run makes no call
+  -- a worker that is not running makes no call
   pub idle-reasons : (x.status ≡ Running → ⊥) → HasReasons w x old new
   idle-reasons idle = record { reserve = λ id r n t runs. absurd (idle runs); output = λ r flags bytes t known runs. absurd (idle runs) }
 
-  -- what it did was no such call
+  -- its step was no such call
   pub other-reasons : (effect : StepEffect) → next_step x.subject.program x.state ≡ effect → ((id r n : ℕ) (t : State) → effect ≢ Asks (Reserve id r n 0) t)
       → ((r flags : ℕ) (bytes : List ℕ) (t : State) → effect ≢ Asks (Output r bytes flags) t) → HasReasons w x old new
   other-reasons effect is no_reserve no_output =
@@ -79,7 +79,7 @@ module _ (w : ℕ) (x : WorkerState) (old new : List KeptRing) where
         (subst (λ b. OutputsOrHasReason w b (hands_at old r) (hands_at new r)) given (reason (subst (λ k. k ≤ 3) flag known)));
   }
 
-  -- it was a call for no record
+  -- it was a call that asks for no record
   pub other-call : (call : HelperCall) → (IsRecordCall call → ⊥) → (s : State) → next_step x.subject.program x.state ≡ Asks call s → HasReasons w x old new
   other-call call apart s is =
       other-reasons (Asks call s) is (λ id r n t e. apart (subst IsRecordCall (sym (same-call call (Reserve id r n 0) s t e)) tt))

@@ -1,4 +1,4 @@
--- What a step of a program does to the records that it holds.
+-- The effect of a program's step on the records that it holds.
 use Rattle.std.proofs.Common.{◌≡◌, ℕ, ◌+◌, ◌≤◌, ℤ, true, false, List, ◌++◌, Option, Some, None, length, take, drop, sym, ap, ◌∙◌, refl, arith, inl, inr}
 use Rattle.std.specs.Prelude.{option_and_then, option_map, nat_le, cond, pos, ◌+ℤ◌, replicate}
 use Rattle.std.specs.Ordering.{int_eq}
@@ -31,11 +31,11 @@ use Rattle.rb_semantics.specs.HelperCalls.{HelperCall, Submit, Discard, CallInSt
 use Rattle.rb_semantics.specs.Instructions.{StepEffect, Goes, Ends, Asks, Stuck, goes_to, gives, execute_copy, execute_compute, execute_arithmetic, execute_load, execute_fill, signed_number, after_store, execute_store, execute_spill, null_test, execute_compare, waits_for, execute_exit, execute, execute_at, next_step}
 use Rattle.rb_world.proofs.Tables.{size_of, size-with_bytes}
 
--- each record has as many bytes as before
+-- each record keeps its length
 abbrev pub SameSizes : State → State → Type 0
 SameSizes s t = (id : ℕ) → size_of id t.memory.records ≡ size_of id s.memory.records
 
--- a call gives back the record that it names, and leaves all others
+-- a submit or discard ends the record that it names, and every call leaves all other records
 abbrev pub Leaves : State → HelperCall → State → Type 0
 Leaves s (Submit id bytes flags) t = (record_named id s.memory.records ≡ Some bytes) × (t.memory.records ≡ without_record id s.memory.records)
 Leaves s (Discard id bytes flags) t = (record_named id s.memory.records ≡ Some bytes) × (t.memory.records ≡ without_record id s.memory.records)
@@ -129,7 +129,7 @@ store_keeps : (insn : Insn) (base : Value) (offset : ℤ) (len : ℕ) (v : Value
 store_keeps insn base offset len (Number n) s = stored_keeps insn (memory_written s.memory base offset (little_bytes len n)) s (written_keeps s base offset (little_bytes len n))
 store_keeps insn base offset len v s = tt
 
--- ---- pointers that are kept on the stack
+-- ---- pointers stored on the stack
 
 spill_keeps : (s : State) (part : MemoryRegion) (offset : ℤ) (v : Value) (m : Memory) → spill s.memory part offset v ≡ Some m → SameSizes s (record s { memory = m })
 spill_keeps s part offset v m e = by_place (place_at part offset) e
@@ -251,7 +251,7 @@ exec_keeps (JumpFar distance) s = goes_keeps s s (edge_target s.unit (JumpFar di
 exec_keeps (Call number) s = waits_keeps s (call_of_helper (helper_of number) s) (asking_keeps (helper_of number) s)
 exec_keeps Exit s = exit_keeps (register s 0) s
 
--- what a step does to the records
+-- the effect of a step on the records
 pub step_keeps : (program : List Insn) (s : State) → Keeps s (next_step program s)
 step_keeps program s = by_slot (slot_at program s.unit)
   where

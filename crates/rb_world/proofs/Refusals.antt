@@ -1,4 +1,4 @@
--- Of the refusals of a world, and of a list of actors, one is the first that applies.
+-- Exactly one of the refusals of a world, or of a list of actors, is the first that applies.
 use Rattle.std.proofs.Common.{◌≡◌, ◌↔◌, ℕ, List, [], ◌∷◌, Result, Err, refl, ap, subst}
 use Rattle.std.specs.Prelude.{All}
 use Rattle.std.proofs.lemmas.List.Elements.{All-head, All-tail}
@@ -58,7 +58,7 @@ module _ (rings : List RingSetup) (workers : List WorkerSetup) where
   one-refusal fault.Memory fault.Chapter a b = absurd (b.4 a.rooms)
   one-refusal fault.Memory fault.Memory a b = refl
 
-  -- the refusal that is told is the one that applies
+  -- the refusal that is returned is the one that applies
   pub refused-exactly : {T : Type 0} (e f : WorldOpenFault) → IsOpenRefusal rings workers e → (err {T = T} e ≡ err f) ↔ IsOpenRefusal rings workers f
   refused-exactly {T = T} e f told = ((λ is. subst (IsOpenRefusal rings workers) (same-err {T = T} e f is) told), λ applies. ap (err {T = T}) (one-refusal e f told applies))
 

@@ -1,4 +1,4 @@
--- What each turn keeps of a ring is kept by the turns of a run.
+-- What every turn preserves for a ring is preserved by a run.
 use Rattle.std.proofs.Common.{◌≡◌, ℕ, suc, ◌+◌, List, [], ◌∷◌, ◌++◌, length, refl, sym, ap, subst, ◌∙◌, inl, inr, arith}
 use Rattle.std.specs.List.{All}
 use Rattle.std.proofs.lemmas.List.Elements.{All-head, All-tail}
@@ -17,7 +17,7 @@ use Rattle.rb_world.proofs.RingSteps.{ledger, Keeps}
 use Rattle.rb_world.proofs.WholeRuns.{after-reached, count-stays, leads-on}
 use Rattle.rb_world.proofs.RingTurns.{Quiet, quiet-same, worker-turned}
 
--- what is kept of each ring of a world that is reached
+-- the invariant of each ring of a reachable world
 pub kept-at : (world : World) (x : IsReachedWorld world) (r : ℕ) → Keeps world.worker_count (ledger (handed_at r x.events) (world.rings r))
 kept-at world x r = (after-reached world x).kept.rings r
 
@@ -27,7 +27,7 @@ IsLegalRing b = IsLegal b.ring.setup b.ring.history
 abbrev pub TakesOf : Taken → WorldRing → WorldRing → Type 0
 TakesOf found old new = RingSteps (λ v v'. ring.Takes v v' found) (taken_by found) old new
 
--- a turn does to the ring of a number what a quiet turn does, or what a take does
+-- a turn does to the ring with a number what a quiet turn does, or what a take does
 pub data RingTurn (old new : WorldRing) : Type 0 where
   Quietly : Quiet old new → RingTurn old new
   ByTake : (found : Taken) → TakesOf found old new → RingTurn old new
@@ -66,7 +66,7 @@ module _ (old new : World) (r : ℕ) where
   ring-turn legal (Consumer s) event h = consumer-turn s event h
   ring-turn legal (Keeper s) event h = keeper-turn event h
 
--- a property of a ring by a number that each turn raises by one holds behind a run
+-- a property of a ring with a counter that each turn increments holds after a run
 module _ (P : ℕ → WorldRing → Type 0) (r : ℕ)
     (turns : (n : ℕ) (old new : WorldRing) → IsLegalRing old → RingTurn old new → P n old → P (n + 1) new) where
   pub along : (n : ℕ) (old new : World) (actors : List Actor) (events : List TurnEvent) → IsReachedWorld old → All (IsActor old.worker_count) actors → WorldRun old actors events new → P n (old.rings r) → P (n + length actors) (new.rings r)
@@ -83,7 +83,7 @@ module _ (P : ℕ → WorldRing → Type 0) (r : ℕ)
       let same : n + 1 + length actors ≡ n + suc (length actors) = omega arith in
       subst (λ m. P m (new.rings r)) same rest
 
--- ---- no program changes
+-- ---- programs do not change
 
 module _ (old new : World) where
   subject-of-consumer : (s : ℕ) (event : TurnEvent) → TakesConsumerTurn s old event new → (v : ℕ) → (new.workers v).subject ≡ (old.workers v).subject
@@ -125,7 +125,7 @@ subjects-stay old new (actor ∷ actors) (event ∷ events) x all h v =
     subjects-stay next new actors events reached (subst (λ m. All (IsActor m) actors) (sym count) (All-tail (IsActor old.worker_count) actor actors all)) h.2 v
     ∙ subject-of old next (λ s. (kept-at old x s).legal) actor event h.1 v
 
--- ---- a run in two parts
+-- ---- a run split into two parts
 
 -- the world between the two parts of a run, and what happened in each
 pub record InTwo (old : World) (front back : List Actor) (events : List TurnEvent) (new : World) : Type 0 where

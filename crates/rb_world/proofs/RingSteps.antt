@@ -1,4 +1,4 @@
--- How each call of a ring keeps its book true, and what it does to the busy records.
+-- How each call preserves the invariant of a ring's ledger, and its effect on the busy records.
 use Rattle.std.proofs.Common.{◌≡◌, ℕ, ◌+◌, ◌<◌, ◌≤◌, Bool, true, false, cond, ◌||◌, List, [], ◌∷◌, ◌++◌, Some, None, length, refl, sym, ap, subst, ◌∙◌, ◌⊎◌, inl, inr, arith, append_assoc, append-nil}
 use Rattle.std.specs.List.{Contains, count_by, filter_map}
 use Rattle.std.specs.Cmp.{nat_cmp_total}
@@ -33,7 +33,7 @@ use Rattle.rb_world.proofs.BusyRecords.{busy-open, SameBusy, OneMore, OneLess, o
 abbrev pub Handed : Type 0
 Handed = List (ℕ × ℕ × List ℕ)
 
--- a book, with what was handed over at its ring
+-- a ring with what was taken from it, and with what was handed over to it
 pub record Ledger : Type 0 where
   pub ring : Ring
   pub handed : Handed
@@ -42,7 +42,7 @@ pub record Ledger : Type 0 where
 abbrev pub ledger : Handed → WorldRing → Ledger
 ledger handed b = record { ring = b.ring; handed = handed; taken = b.taken }
 
--- a ring made a step, and this was handed over and taken
+-- a ring made a step, and these records were handed over and taken
 pub record Moves (step : Ring → Ring → Type 0) (handed : Handed) (taken : List Taken) (old new : Ledger) : Type 0 where
   pub stepped : step old.ring new.ring
   pub stands : StandsFor new.ring
@@ -59,7 +59,7 @@ over-none P handed took old new m = record { stepped = m.stepped; stands = m.sta
 abbrev pub IsHanded : Handed → ℕ → List ℕ → Type 0
 IsHanded handed p bytes = (w : ℕ) × Contains handed (p, w, bytes)
 
--- a book that is true, and says of the bytes that are handed over what keeps it so
+-- the ledger satisfies `IsTrueRing`, and an invariant on the bytes that were handed over
 pub record Keeps (workers : ℕ) (b : Ledger) : Type 0 where
   pub legal : IsLegal b.ring.setup b.ring.history
   pub stands : StandsFor b.ring
@@ -71,7 +71,7 @@ pub record Keeps (workers : ℕ) (b : Ledger) : Type 0 where
   pub waiting_handed : (p : ℕ) (bytes : List ℕ) → get b.ring.contents p ≡ Some bytes → IsHanded b.handed p bytes
   pub in_row : Row b.ring.history (filter_map taken_position b.taken)
 
--- one of a list passes a test, or none does
+-- one element of a list passes a test, or none does
 some_or_none : {X : Type 0} (t : X → Bool) (xs : List X) → ((x : X) × Contains xs x × (t x ≡ true)) ⊎ (count_by t xs ≡ 0)
 some_or_none t [] = inr refl
 some_or_none t (y ∷ xs) = elim (cases_Bool (t y)) [
@@ -82,7 +82,7 @@ some_or_none t (y ∷ xs) = elim (cases_Bool (t y)) [
   ]
 ]
 
--- what a call does to a book
+-- the effect of a call on a ledger
 record Changes (old new : Ledger) (handed : Handed) (took : List Taken) : Type 0 where
   setup_same : new.ring.setup ≡ old.ring.setup
   legal : IsLegal old.ring.setup new.ring.history
@@ -135,7 +135,7 @@ changed workers old new handed took a c = record {
     adds : (p w : ℕ) (bytes : List ℕ) → Contains handed (p, w, bytes) → Contains new.handed (p, w, bytes)
     adds p w bytes h = subst (λ l. Contains l (p, w, bytes)) (sym c.handed_are) (Contains-append_right old.handed handed (p, w, bytes) h)
 
-    -- what is handed over now was not handed over before, since its record was not submitted then
+    -- what is handed over now was not handed over before, because its record was not submitted then
     at_most_once : (p : ℕ) → count_by (is_handed_at p) (old.handed ++ handed) ≤ 1
     at_most_once p =
         let whole : count_by (is_handed_at p) (old.handed ++ handed) ≡ count_by (is_handed_at p) old.handed + count_by (is_handed_at p) handed = sum_by-append (λ x. cond {A = ℕ} (is_handed_at p x) 1 0) old.handed handed in
@@ -153,7 +153,7 @@ changed workers old new handed took a c = record {
     submitted_still : (p w n : ℕ) → IsSubmittedBy old.ring.history p w n → IsSubmittedBy new.ring.history p w n
     submitted_still p w n s = record { serial = s.serial; granted_is = c.longer (Res w s.serial n p) s.granted_is; submitted = c.grows p s.submitted }
 
-    -- what is taken was handed over by the worker that the record was granted to, since a position is granted once
+    -- what is taken was handed over by the worker that the record was granted to, because each position is granted once
     by_its_worker : (p w k : ℕ) (bytes : List ℕ) → (get old.ring.contents p ≡ Some bytes) × Contains old.ring.history (Res w k (length bytes) p) → Contains old.handed (p, w, bytes)
     by_its_worker p w k bytes t =
         let by : IsHanded old.handed p bytes = a.waiting_handed p bytes t.0 in
@@ -161,7 +161,7 @@ changed workers old new handed took a c = record {
         let same : by.0 ≡ w = (one-grant old.ring.setup old.ring.history p by.0 s.serial (length bytes) w k (length bytes) a.legal s.granted_is t.1).0 in
         subst (λ v. Contains old.handed (p, v, bytes)) same by.1
 
--- ---- lists of none and of one
+-- ---- lists of no element and of one element
 
 none : {X : Type 0} (x : X) → Contains [] x → ⊥
 none x (i, lt, is) = omega arith
@@ -208,7 +208,7 @@ quiet workers old new P h a m s is same l longer grows row = changed workers old
     row-none : (h : List Entry) → new.ring.history ≡ h → Row h (filter_map taken_position old.taken) → Row new.ring.history (filter_map taken_position old.taken ++ [])
     row-none h is row = subst (λ l. Row new.ring.history l) (sym (append-nil (filter_map taken_position old.taken))) (subst (λ g. Row g (filter_map taken_position old.taken)) (sym is) row)
 
--- a call that hands bytes over, of a record that its worker was granted
+-- a call that hands bytes over, for a record that its worker was granted
 hands : (workers : ℕ) (old new : Ledger) (P : Ring → Ring → Type 0) (h : List Entry) (p w : ℕ) (bytes : List ℕ) → Keeps workers old → Moves P ((p, w, bytes) ∷ []) [] old new → new.ring.setup ≡ old.ring.setup → new.ring.history ≡ h → new.ring.contents ≡ insert old.ring.contents p bytes
     → IsLegal old.ring.setup h → ((e : Entry) → Contains old.ring.history e → Contains h e) → ((q : ℕ) → is_submitted_at old.ring.history q ≡ true → is_submitted_at h q ≡ true) → is_submitted_at old.ring.history p ≡ false → IsSubmittedBy h p w (length bytes)
     → (Row old.ring.history (filter_map taken_position old.taken) → Row h (filter_map taken_position old.taken)) → Keeps workers new

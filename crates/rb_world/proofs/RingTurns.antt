@@ -1,4 +1,5 @@
--- What a worker's turn does to each ring: it takes nothing, and grants one record at most. No worker's program changes.
+-- The effect of a worker's turn on each ring: it takes nothing, and grants at most one record. No worker's program
+-- changes.
 use Rattle.std.proofs.Common.{◌≡◌, ℕ, ◌+◌, ◌≤◌, false, List, [], ◌∷◌, ◌++◌, Option, Some, None, length, refl, sym, ap, subst, ◌∙◌, inl, inr, arith, append_assoc, append-nil, length-append}
 use Rattle.std.specs.List.{filter_map}
 use Rattle.std.proofs.lemmas.Bool.{false_from_ne_true}
@@ -23,7 +24,7 @@ use Rattle.rb_world.specs.EveryInterleaving.{granted_position}
 use Rattle.rb_world.proofs.BusyRecords.{not-granted}
 use Rattle.rb_world.proofs.Tables.{eq_cases, placed-here, placed-else}
 
--- how many records a history grants
+-- the number of records that a history grants
 abbrev pub granted_count : List Entry → ℕ
 granted_count h = length (filter_map granted_position h)
 
@@ -39,7 +40,7 @@ pub record Quiet (old new : WorldRing) : Type 0 where
 pub quiet-same : (old new : WorldRing) → new ≡ old → Quiet old new
 quiet-same old new e = subst (Quiet old) (sym e) (record { setup_same = refl; taken_same = refl; consumer_same = refl; one_more = omega arith })
 
--- no record stands yet where the next one will
+-- the position of the next record holds none yet
 pub free : (r : Setup) (h : List Entry) → IsLegal r h → is_taken_at h (producer_of r.start h) ≡ false
 free r h l =
     let kept : KeptAs r h = kept-from-legal r h l in
@@ -82,7 +83,7 @@ module _ (old new : WorldRing) where
   quiet-discard : (r : Granted) → RingSteps (λ v v'. ring.Discards v v' r) [] old new → Quiet old new
   quiet-discard r m = logged _ (Dis r.pos ∷ []) m m.stepped.logged (consumer-dis old.ring.setup.start old.ring.history r.pos) (omega arith)
 
--- each ring made such a turn, and each worker has its program still
+-- each ring made such a turn, and each worker still has its program
 pub record Turned (old new : World) : Type 0 where
   pub rings : (r : ℕ) → Quiet (old.rings r) (new.rings r)
   pub subjects : (v : ℕ) → (new.workers v).subject ≡ (old.workers v).subject

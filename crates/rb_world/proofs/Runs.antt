@@ -1,4 +1,4 @@
--- Runs, turn after turn.
+-- Runs, turn by turn.
 use Rattle.std.proofs.Common.{◌≡◌, ℕ, ◌+◌, ◌<◌, List, [], ◌∷◌, ◌++◌, length, take, get_or, refl, sym, subst, arith}
 use Rattle.std.specs.Prelude.{All}
 use Rattle.std.specs.List.{AllZip}
@@ -42,19 +42,19 @@ turns-push (a ∷ actors) old mid new [] actor done before turned chapters reaso
 turns-push (a ∷ actors) old mid new (d ∷ dones) actor done before turned chapters reasons =
     (before.0, before.1, before.2, before.3, turns-push actors before.0 mid new dones actor done before.4 turned chapters reasons)
 
--- one more turn, in the world that the turns before left
+-- one more turn, in the world that the previous turns left
 pub turns-more : (actors : List Actor) (i : ℕ) (d : Actor) (old mid new : WorldValue) (dones : List TurnDone) (done : TurnDone) → i < length actors → TakesTurns (take i actors) old dones mid → IsTurnOf (get_or actors i d) mid done new
     → TurnsChaptersOf (get_or actors i d) done mid.rings new.rings → TurnHasReasons (get_or actors i d) mid new → TakesTurns (take (i + 1) actors) old (dones ++ done ∷ []) new
 turns-more actors i d old mid new dones done low before turned chapters reasons =
     subst (λ l. TakesTurns l old (dones ++ done ∷ []) new) (sym (take_more actors i d low)) (turns-push (take i actors) old mid new dones (get_or actors i d) done before turned chapters reasons)
 
--- the first actor that is not there
+-- the first actor that does not exist
 pub first-at : (v : WorldValue) (actors : List Actor) (i : ℕ) (d : Actor) → All (IsThere v) (take i actors) → i < length actors → (IsThere v (get_or actors i d) → ⊥) → IsFirstUnknown v actors i
 first-at v [] i d all low fails = absurd (omega arith)
 first-at v (a ∷ actors) ℕ.zero d all low fails = fails
 first-at v (a ∷ actors) (ℕ.suc i) d all low fails = (All-head (IsThere v) a (take i actors) all, first-at v actors i d (All-tail (IsThere v) a (take i actors) all) (omega arith) fails)
 
--- the same actors are there in a world of as many workers and rings
+-- the same actors exist in a world with as many workers and rings
 pub there-still : (old new : WorldValue) (actor : Actor) → length new.machines ≡ length old.machines → length new.rings ≡ length old.rings → IsThere old actor → IsThere new actor
 there-still old new (Worker w) workers rings there = subst (λ n. w < n) (sym workers) there
 there-still old new (Consumer r) workers rings there = subst (λ n. r < n) (sym rings) there

@@ -1,4 +1,4 @@
--- The model world that a world shows, after one ring or one worker changed.
+-- The model world that a world represents, after one ring or one worker changed.
 use Rattle.std.proofs.Common.{◌≡◌, ℕ, ◌<◌, List, [], ◌∷◌, ◌++◌, length, get_or, set, refl, sym, ap, subst, ◌∙◌, inl, inr, get_or-set_same, get_or-set_other}
 use Rattle.std.proofs.lemmas.Bool.{cases_eq, eq-eqb, ne_eqb}
 use Rattle.rb_history.specs.declared.answers.Taken.{Taken}
@@ -21,7 +21,7 @@ module _ (body : WholeWorld) (r : ℕ) (s : WorldRing) (inside : r < length body
     | inr else ↦ rw (ne_eqb j r else) ((get_or-set_other body.rings r j s (no_ring (length body.machines)) else))
   ]
 
-  -- one ring is another
+  -- one ring is replaced
   pub shown-book : shown_world (record body { rings = set body.rings r s }) ≡ with_ring r s (shown_world body)
   shown-book = ap (λ rings. record (shown_world body) { rings = rings }) (λ i j. book-at j i)
 
@@ -30,7 +30,7 @@ set-get [] r d = refl
 set-get (x ∷ xs) ℕ.zero d = refl
 set-get (x ∷ xs) (ℕ.suc r) d = ap (λ l. x ∷ l) (set-get xs r d)
 
--- what one take did to the ring is a turn of its consumer
+-- one take's effect on the ring is a turn of its consumer
 pub take-turn : (body : WholeWorld) (r : ℕ) (s : WorldRing) (done : TurnDone) → r < length body.rings → TakesOnce (get_or body.rings r (no_ring (length body.machines))) done s → IsWholeTurn (Consumer r) body done (record body { rings = set body.rings r s })
 take-turn body r s done inside (event, tells, does) = (event, tells, by_done event does)
   where
@@ -53,6 +53,6 @@ took before v w items items' found done is takes stands more tells =
 pub refused-take : (before : WorldRing) (v : Ring) (items items' : List Taken) → before ≡ record { ring = v; taken = items } → items' ≡ items → TakesOnce before turn.Memory (record { ring = v; taken = items' })
 refused-take before v items items' is same = (NoMemory, tt, ap (λ l. record { ring = v; taken = l }) same ∙ sym is)
 
--- what stands at a place, whatever stands past the end
+-- an element in range does not depend on the default
 pub at-default : {X : Type 0} (xs : List X) (i : ℕ) (x d : X) → i < length xs → x ≡ get_or xs i x → x ≡ get_or xs i d
 at-default xs i x d lt e = e ∙ get_or-default xs i x d lt

@@ -1,4 +1,4 @@
--- What a world keeps, turn after turn.
+-- Invariants that every turn of a world preserves.
 use Rattle.std.proofs.Common.{◌≡◌, ℕ, ◌<◌, Some, length, get_or, ap, ◌∙◌}
 use Rattle.std.specs.Prelude.{option_map}
 use Rattle.rb_history.specs.Calls.{IsBusy}
@@ -26,7 +26,7 @@ busy-held v w m sound inside is id x held =
     let busy : IsBusyAsHeld (shown_world v) w id x.ring x.reservation.granted.pos x.reservation.granted.serial = well.held_are_busy w id x.ring x.reservation.granted.pos x.reservation.granted.serial inside holds in
     (length busy.0, busy.2)
 
--- a turn leaves a sound world, where what it leaves fits
+-- a turn leaves a sound world if the result is fitting
 pub sound-after : (old new : WholeWorld) (actor : Actor) (done : TurnDone) → IsSoundWorld old → IsActor (length old.machines) actor → IsWholeTurn actor old done new → IsFitting new → IsSoundWorld new
 sound-after old new actor done sound inside turned fits = record {
   fitting = fits;

@@ -1,4 +1,4 @@
--- Tables in which one place has another value, and records by name.
+-- Tables with one element replaced, and records by id.
 use Rattle.std.proofs.Common.{◌≡◌, ◌≢◌, ℕ, true, false, eqb, List, [], ◌∷◌, Option, Some, None, length, sym, ap, ◌∙◌, refl, ◌⊎◌, inl, inr}
 use Rattle.std.specs.Prelude.{option_map}
 use Rattle.std.proofs.lemmas.Bool.{cases_eq, eq-eqb, ne_eqb}
@@ -15,11 +15,11 @@ module _ {X : Type 0} (i : ℕ) (x : X) (table : ℕ → X) where
   pub placed-else : (j : ℕ) → j ≢ i → table_with i x table j ≡ table j
   placed-else j e = rw (ne_eqb j i e) refl
 
--- how many bytes a record has, where it is held
+-- the length of a record, if it is held
 abbrev pub size_of : ℕ → List (ℕ × List ℕ) → Option ℕ
 size_of id records = option_map length (record_named id records)
 
--- a record that was given back is not held
+-- a record that was removed is not held
 pub none-without : (id : ℕ) (rs : List (ℕ × List ℕ)) → record_named id (without_record id rs) ≡ None
 none-without id [] = refl
 none-without id (r ∷ rs) = elim (eq_cases r.0 id) [ inl h ↦ rw h.0 (none-without id rs) | inr h ↦ rw h.0 (rw h.0 (none-without id rs)) ]

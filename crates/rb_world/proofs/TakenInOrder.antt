@@ -1,4 +1,4 @@
--- The records that were taken, and behind them those that are there, are all that were reserved, in that order.
+-- The records that were taken, followed by those that remain, are all that were reserved, in that order.
 use Rattle.std.proofs.Common.{◌≡◌, ℕ, false, List, [], ◌∷◌, ◌++◌, map, filter, refl, sym, ap, subst, ◌∙◌, inl, inr, arith, append_assoc, append-nil}
 use Rattle.std.specs.List.{Contains, filter_map}
 use Rattle.std.proofs.lemmas.List.{map-append}
@@ -21,7 +21,7 @@ use Rattle.rb_world.proofs.BusyRecords.{not-granted, not-settled}
 abbrev pub positions : List Shown → List ℕ
 positions shown = map (λ s. s.pos) shown
 
--- the positions that were taken, and then those of the records that are there, are those that were granted
+-- the positions that were taken, followed by those of the remaining records, are those that were granted
 abbrev pub Row : List Entry → List ℕ → Type 0
 Row h gone = filter_map granted_position h ≡ gone ++ positions (records h)
 

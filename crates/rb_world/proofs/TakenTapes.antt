@@ -1,4 +1,4 @@
--- What was taken of a ring stands on a tape.
+-- What was taken from a ring forms a tape.
 use Rattle.std.proofs.Common.{◌≡◌, ℕ, zero, suc, ◌+◌, ◌-◌, ◌<◌, ◌≤◌, ◌^◌, List, [], ◌∷◌, ◌++◌, length, refl, sym, ap, subst, ◌∙◌, arith, append-nil}
 use Rattle.std.specs.List.{Contains}
 use Rattle.std.specs.Prelude.{count_by}
@@ -28,7 +28,7 @@ use Rattle.rb_world.proofs.WholeRuns.{opening-reached}
 use Rattle.rb_world.proofs.RingTurns.{Quiet}
 use Rattle.rb_world.proofs.RingRuns.{IsLegalRing, TakesOf, RingTurn, Quietly, ByTake, along}
 
--- ---- a record that was granted has fitted into the ring
+-- ---- a record that was granted fits into the ring
 
 split : (h : List Entry) (e : Entry) → Contains h e → (before : List Entry) × (after : List Entry) × (h ≡ before ++ e ∷ after)
 split [] e (i, low, is) = absurd (omega arith)
@@ -64,7 +64,7 @@ module _ (old new : WorldRing) where
     abbrev h : List Entry
     h = old.ring.history
 
-    -- one record more was taken
+    -- one more record was taken
     one-more : (p w k n : ℕ) (item : Item) → item_position item ≡ p → item_len item ≡ n → p ≡ consumer_of start h → Contains h (Res w k n p) → ring.Logs old.ring new.ring (Take p ∷ [])
         → taken_items new.taken ≡ taken_items old.taken ++ item ∷ [] → StandsOnTape new
     one-more p w k n item here long front there logs took =
@@ -115,7 +115,7 @@ same-setup (Skipped p n) old new m = m.stepped.logged.setup_same
 same-setup BusyFront old new m = ap (λ (v : Ring). v.setup) m.stepped.same
 same-setup Empty old new m = ap (λ (v : Ring). v.setup) m.stepped.same
 
--- the ring has this setup, and what was taken of it stands on a tape if the ring is small enough
+-- the ring has this setup, and what was taken from it forms a tape if the ring is small enough
 record OnTape (setup : Setup) (turns : ℕ) (b : WorldRing) : Type 0 where
   setup_is : b.ring.setup ≡ setup
   stands : setup.size ≤ 67108864 → StandsOnTape b

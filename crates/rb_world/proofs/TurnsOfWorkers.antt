@@ -1,4 +1,4 @@
--- Each turn keeps what holds of a world.
+-- Every worker's turn preserves the invariant of worlds.
 use Rattle.std.proofs.Common.{◌≡◌, ◌≢◌, ℕ, ◌+◌, ◌<◌, ◌≤◌, cond, List, [], ◌∷◌, ◌++◌, Option, Some, None, length, replicate, refl, sym, ap, subst, ◌∙◌, ◌⊎◌, inl, inr, arith}
 use Rattle.std.specs.Prelude.{option_map}
 use Rattle.std.proofs.lemmas.List.{length-replicate}
@@ -20,7 +20,7 @@ use Rattle.rb_world.proofs.BusyRecords.{SameBusy, OneMore, OneLess, one-record}
 use Rattle.rb_world.proofs.RingSteps.{Handed, ledger, Keeps}
 use Rattle.rb_world.proofs.KeptWorlds.{BusyAt, Tied, Runs, IsIn, HasIt, IsKept, tied-there, tied-size, tied-none, tied-stays, StayOf, placed-stay, placed-back, placed-there, kept-changed}
 
--- a worker that runs behind a turn ran before it, and came forward where the turn was its own
+-- a worker that runs after a turn ran before it, and advanced if the turn was its own
 abbrev pub Advances : ℕ → WorkerState → WorkerState → Type 0
 Advances gain x y = y.status ≡ Running → (x.status ≡ Running) × (x.state.unit + gain ≤ y.state.unit)
 
@@ -65,7 +65,7 @@ held-is x id r p k spot e h =
 pub unheld : (held : Option RecordPlace) (spot : RecordPlace) → held ≡ None → held ≡ Some spot → ⊥
 unheld held spot e f = let clash : None ≡ Some spot = sym e ∙ f in cc
 
--- ---- one worker runs
+-- ---- one running worker
 
 module _ (handed : ℕ → Handed) (old : World) (kept : IsKept handed old) (w : ℕ) (inside : w < old.worker_count) (runs : (old.workers w).status ≡ Running) where
   abbrev x : WorkerState
@@ -83,7 +83,7 @@ module _ (handed : ℕ → Handed) (old : World) (kept : IsKept handed old) (w :
   pub can : CanStep (old.workers w).subject (old.workers w).state
   can = running.can_step
 
-  -- it goes on and holds what it held, and no record of its ring changes
+  -- it continues and holds the same records, and no record of its ring changes
   pub goes-same : (t : State) (r : ℕ) (b : WorldRing) (g : Handed) → Keeps old.worker_count (ledger g b) → SameBusy (old.rings r).ring.history b.ring.history → CanStep program t → SameSizes s t → s.unit + 1 ≤ t.unit
       → AfterTurn (Worker w) old (table_with r g handed) (with_ring r b (with_worker w (record (old.workers w) { state = t }) old))
   goes-same t r b g book same next sizes on =
@@ -161,14 +161,14 @@ module _ (handed : ℕ → Handed) (old : World) (kept : IsKept handed old) (w :
               (tied-stays old.rings (table_with r b old.rings) w (size_of id s.memory.records) (x.held id) (λ other n f. placed-stay old.rings r b w (λ q j m. more.stay q w j m) other.ring other.pos other.serial n) (running.tied id))
         ]
 
-        -- what it holds now is the new record, or was held before
+        -- a record that it now holds is the new one, or was held before
         now : (y : WorkerState) (id q z j : ℕ) → ((i : ℕ) → y.held i ≡ table_with t.unit (Some (record { ring = r; pos = p; serial = k })) (old.workers w).held i) → HoldsRecord y id q z j → ((id ≡ t.unit) × (q ≡ r) × (z ≡ p)) ⊎ ((id ≢ t.unit) × HoldsRecord (old.workers w) id q z j)
         now y id q z j is h = elim (eq_cases id t.unit) [
           | inl same ↦ (let here = held-is y id q z j (record { ring = r; pos = p; serial = k }) (is id ∙ placed-here t.unit _ (old.workers w).held id same.1) h in inl (same.1, here.0, here.1))
           | inr else ↦ inr (else.1, record { held = sym (is id ∙ placed-else t.unit _ (old.workers w).held id else.1) ∙ h.held })
         ]
 
-        -- what was held before is not the new record
+        -- a record held before is not the new one
         apart : (id q z j : ℕ) → HoldsRecord (old.workers w) id q z j → q ≡ r → z ≡ p → ⊥
         apart id q z j h e f =
             let there = tied-there old.rings w (size_of id s.memory.records) (x.held id) (record { ring = q; pos = z; serial = j }) (running.tied id) h.held in
@@ -207,10 +207,10 @@ module _ (handed : ℕ → Handed) (old : World) (kept : IsKept handed old) (w :
                 let ne : id ≢ t.unit = λ f. unheld (x.held id) (record { ring = q; pos = z; serial = j }) (ap x.held f ∙ none-held) c.1.1.1.held in
                 (c.0, (status, (id, record { held = is id ∙ placed-else t.unit _ (old.workers w).held id ne ∙ c.1.1.1.held })))
 
-  -- ---- a record is given back
+  -- ---- a record is submitted or discarded
 
   module _ (id : ℕ) (bytes : List ℕ) (t : State) (here : t.unit ≡ s.unit) (leaves : (record_named id s.memory.records ≡ Some bytes) × (t.memory.records ≡ without_record id s.memory.records)) where
-    -- it is held, and busy
+    -- the record is held, and busy
     pub is-held : (spot : RecordPlace) × ((x.held id ≡ Some spot) × BusyAt old.rings spot.ring spot.pos w spot.serial (length bytes))
     is-held = tied-size old.rings w (size_of id s.memory.records) (x.held id) (length bytes) (running.tied id) (ap (option_map length) leaves.0)
 
@@ -233,7 +233,7 @@ module _ (handed : ℕ → Handed) (old : World) (kept : IsKept handed old) (w :
         (c.0, (runs, (other, record { held = placed-else id None (old.workers w).held other ne ∙ c.1.1.1.held })))))
         (λ _. (runs, (let u = unit in let e = here in omega arith)))
       where
-        -- the record is this worker's alone
+        -- no other worker holds the record
         others : (v j n : ℕ) → BusyAt old.rings spot.ring spot.pos v j n → v ≡ w
         others v j n h =
             let own = tied-there old.rings w (size_of id s.memory.records) (x.held id) spot (running.tied id) held in

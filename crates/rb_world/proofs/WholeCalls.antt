@@ -36,11 +36,11 @@ moved P old new p stands = record { stepped = p; stands = stands; taken_are = re
 granted-is : (r : Granted) (w : ℕ) (bytes : List ℕ) → r.worker ≡ w → r.bytes ≡ bytes → r ≡ record { pos = r.pos; worker = w; serial = r.serial; bytes = bytes }
 granted-is r w bytes e f = ap (λ v. record r { worker = v }) e ∙ ap (λ b. record { pos = r.pos; worker = w; serial = r.serial; bytes = b }) f
 
--- the whole ring stands for its history
+-- the ring with its whole history represents that history
 pub stands-whole : (earlier : List Entry) (v : ChapterRing) → IsKept earlier v.chapter → StandsForChapter v → StandsFor (whole_ring earlier v)
 stands-whole earlier v kept stands = (stands-alike earlier v kept.continues).0 stands
 
--- ---- a record is asked for
+-- ---- a record is requested
 
 module _ (old new : ChapterRing) (w : ℕ) where
   pub reserve-unlogged : (len flags : ℕ) → flags ≡ 0 → new ≡ old → IsWholeAnswer (λ v v'. IsReserved v v' w len flags None) old new
@@ -96,7 +96,7 @@ module _ (old new : ChapterRing) (w : ℕ) where
   output-refused n bytes flags Foreign there few long stands h = absurd h
   output-refused n bytes flags HandsFull there few long stands h = absurd h
 
--- ---- records that are given back, and takes
+-- ---- submits, discards and takes
 
 module _ (s : KeptRing) (new : TaggedRing) (kept : IsKept (joined s.chapters) s.ring.state.ring.chapter) where
   abbrev after : KeptRing

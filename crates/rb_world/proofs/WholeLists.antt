@@ -1,4 +1,4 @@
--- The rings of a world, and the same with their whole histories.
+-- The rings of a world, and the same rings with their whole histories.
 use Rattle.std.proofs.Common.{◌≡◌, ℕ, ◌<◌, List, [], ◌∷◌, length, map, get_or, set, refl, sym, ap, subst, ◌∙◌, arith}
 use Rattle.rb_history.specs.RoomRule.{Setup}
 use Rattle.rb_chapter_ring.specs.Chapters.{Chapter}
@@ -29,7 +29,7 @@ module _ {X Y : Type 0} (f : X → Y) where
   map-set (y ∷ xs) ℕ.zero x = refl
   map-set (y ∷ xs) (ℕ.suc i) x = ap (λ l. f y ∷ l) (map-set xs i x)
 
-  -- an element that shows the same
+  -- replacing an element by one with the same image
   pub map-set-same : (xs : List X) (i : ℕ) (x y : X) → x ≡ get_or xs i x → f y ≡ f x → map f (set xs i y) ≡ map f xs
   map-set-same [] i x y there same = refl
   map-set-same (z ∷ xs) ℕ.zero x y there same = ap (λ u. u ∷ map f xs) (same ∙ ap f there)
@@ -42,7 +42,7 @@ setups-shown : (rings : List KeptRing) → setups_of (map world_ring rings) ≡ 
 setups-shown [] = refl
 setups-shown (s ∷ rings) = ap (λ l. s.ring.state.ring.chapter.opening.setup ∷ l) (setups-shown rings)
 
--- rings in the same chapters are the same rings
+-- rings in the same chapters have the same setups
 pub setups-by-chapters : (one other : List KeptRing) → map chapters_of one ≡ map chapters_of other → setups_of (map world_ring one) ≡ setups_of (map world_ring other)
 setups-by-chapters one other same = setups-shown one ∙ (ap (map setup-shown) same ∙ sym (setups-shown other))
 

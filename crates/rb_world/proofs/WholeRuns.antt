@@ -1,4 +1,4 @@
--- Every interleaving.
+-- The proof of the theorem on all interleavings.
 use Rattle.std.proofs.Common.{◌≡◌, ℕ, ◌<◌, ◌≤◌, true, false, List, [], ◌∷◌, ◌++◌, append-nil, append_assoc, Option, Some, None, refl, sym, ap, subst, ◌∙◌, arith}
 use Rattle.std.specs.Prelude.{is_some, option_map, length}
 use Rattle.std.specs.List.{All, Contains, filter_map}
@@ -99,7 +99,7 @@ run handed old new (actor ∷ actors) (event ∷ events) kept all h =
           (early.0, (let whole = count_by-cons (is_turn_of v) actor actors in let a = late.1 in let b = early.1 in omega arith));
     }
 
--- ---- what holds at the end
+-- ---- the state at the end
 
 module _ (world : World) (events : List TurnEvent) (kept : IsKept (λ r. handed_at r events) world) where
   holds-runs : (w id r p k : ℕ) (status : WorkerStatus) → w < world.worker_count → (world.workers w).status ≡ status → HoldsRecord (world.workers w) id r p k → IsIn status world.rings w (world.workers w) → Runs world.rings w (world.workers w)
@@ -158,7 +158,7 @@ every-interleaving first last actors events o all h =
     let after : AfterRun actors first (λ r. handed_at r events) last = run (λ r. []) first last actors events (opening first o) all h in
     well last events after.kept actors (λ w runs. let a = (after.advances w runs).1 in omega arith)
 
--- ---- worlds that are reached
+-- ---- reachable worlds
 
 pub run-push : (old mid new : World) (actors : List Actor) (events : List TurnEvent) (actor : Actor) (event : TurnEvent) → WorldRun old actors events mid → WorldStep mid actor event new → WorldRun old (actors ++ actor ∷ []) (events ++ event ∷ []) new
 run-push old mid new [] [] actor event run step = (new, subst (λ (w : World). WorldStep w actor event new) run step, refl)
@@ -186,7 +186,7 @@ leads-on old new actor event x inside step =
       count = next.count ∙ x.count;
     }
 
--- a world that begins is reached by no turn
+-- an opening is reached by no turn
 pub opening-reached : (world : World) → IsOpeningWorld world → IsReachedWorld world
 opening-reached world o = record { first = world; actors = []; events = []; opens = o; there = All-nil (IsActor world.worker_count); run = refl; count = refl }
 

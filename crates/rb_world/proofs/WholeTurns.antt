@@ -14,7 +14,7 @@ use Rattle.rb_world.proofs.SoundWorlds.{sound-after}
 use Rattle.rb_world.proofs.MachineAnswers.{fits-rings}
 use Rattle.rb_world.proofs.WholeLists.{map-low, map-there, map-at, map-set, map-set-same, setups-by-chapters}
 
--- a ring with its whole history is that of the world
+-- a ring with its whole history is the world's ring
 pub ring-shown : (v : WorldValue) (r : ℕ) → r < length v.rings → (world_of v).rings r ≡ world_ring (ring_at v r)
 ring-shown v r low = map-at world_ring v.rings r no_kept_ring (no_ring (length v.machines)) low
 

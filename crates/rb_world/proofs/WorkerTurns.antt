@@ -1,4 +1,4 @@
--- The model world that a world shows, after one worker executed an instruction.
+-- The model world that a world represents, after one worker executed an instruction.
 use Rattle.std.proofs.Common.{◌≡◌, ◌≢◌, ℕ, ◌<◌, List, [], ◌∷◌, Some, None, length, get_or, set, map, refl, sym, ap, subst, ◌∙◌, inl, inr, get_or-set_same, get_or-set_other, arith}
 use Rattle.std.specs.Prelude.{option_map}
 use Rattle.std.proofs.lemmas.Bool.{cases_eq, eq-eqb, ne_eqb}
@@ -26,7 +26,7 @@ use Rattle.rb_world.proofs.HeldByWorkers.{shown-given}
 abbrev Held : Type 0
 Held = List (ℕ × WorldRecord)
 
--- the records of a machine whose bytes may have changed show what they showed
+-- changing the bytes of a machine's records leaves what they show
 pub same-shown : {X : Type 0} (f : WorldRecord → X) (with_bytes : WorldRecord → List ℕ → WorldRecord) → ((r : WorldRecord) (w : List ℕ) → f (with_bytes r w) ≡ f r) → (rs ss : Held) → Rewrites with_bytes rs ss → (id : ℕ) → option_map f (held_record id ss) ≡ option_map f (held_record id rs)
 same-shown f with_bytes keeps [] [] h id = refl
 same-shown f with_bytes keeps [] (s ∷ ss) h id = absurd h
@@ -65,7 +65,7 @@ module _ (body : WholeWorld) (w : ℕ) (m : MachineState WorldRecord) (inside : 
     | inr else ↦ rw (ne_eqb j w else) (get_or-set_other (map worker_of body.machines) w j (worker_of m) no_worker else)
   ]
 
-  -- one worker is another
+  -- one worker is replaced
   pub shown-worker : shown_world (record body { machines = set body.machines w m }) ≡ with_worker w (worker_of m) (shown_world body)
   shown-worker = λ i. record {
     worker_count = length-set body.machines w m i;
@@ -76,12 +76,12 @@ module _ (body : WholeWorld) (w : ℕ) (m : MachineState WorldRecord) (inside : 
     };
   }
 
--- one ring and one worker are others
+-- one ring and one worker are replaced
 pub shown-both : (body : WholeWorld) (r : ℕ) (s : WorldRing) (w : ℕ) (m : MachineState WorldRecord) → r < length body.rings → w < length body.machines
     → shown_world (record { rings = set body.rings r s; machines = set body.machines w m }) ≡ with_ring r s (with_worker w (worker_of m) (shown_world body))
 shown-both body r s w m low inside = shown-book (record body { machines = set body.machines w m }) r s low ∙ ap (with_ring r s) (shown-worker body w m inside)
 
--- a worker that runs does what its program means
+-- a running worker performs its program's next step
 executes-turn : (body : WholeWorld) (w : ℕ) (old : MachineState WorldRecord) (effect : StepEffect) (event : TurnEvent) (after : World) → w < length body.machines → old ≡ get_or body.machines w old → old.phase ≡ phase.Ready
     → next_step old.program.program old.state ≡ effect → ExecutesStep w effect (shown_world body) event after → WorldStep (shown_world body) (Worker w) event after
 executes-turn body w old effect event after inside is ready step does =
@@ -91,7 +91,7 @@ executes-turn body w old effect event after inside is ready step does =
     subst (λ status. TakesWorkerTurn w status (shown_world body) event after) (sym runs) (subst (λ e. ExecutesStep w e (shown_world body) event after) (sym steps) does)
 
 module _ (w : ℕ) (rings : List WorldRing) (old new : MachineState WorldRecord) (ready : old.phase ≡ phase.Ready) where
-  -- an instruction that is no call
+  -- an instruction other than a call
   pub went-turn : next_step old.program.program old.state ≡ Goes new.state → new.phase ≡ phase.Ready → new.program ≡ old.program → ((id : ℕ) → held_by new id ≡ held_by old id) → IsWorkerTurn w old rings turn.Went new rings
   went-turn step after program held = λ machines inside is.
       let body : WholeWorld = record { rings = rings; machines = machines } in
@@ -107,7 +107,7 @@ module _ (w : ℕ) (rings : List WorldRing) (old new : MachineState WorldRecord)
       let y : worker_of new ≡ record ((shown_world body).workers w) { status = Finished n } = (λ i. record { subject = program i; state = state i; held = λ id. option_map place_of (held_record id (records i)); status = (ap status_of_phase after) i }) ∙ ap (λ (x : WorkerState). record x { status = Finished n }) (sym here) in
       (Ended n, refl, executes-turn body w old (Ends n) (Ended n) _ inside is ready step (refl, shown-worker body w new inside ∙ ap (λ x. with_worker w x (shown_world body)) y))
 
--- a worker that does not run
+-- a worker that is not running
 pub idle-turn : (w : ℕ) (rings : List WorldRing) (old : MachineState WorldRecord) → old.phase ≢ phase.Ready → IsWorkerTurn w old rings turn.Idle old rings
 idle-turn w rings old still = λ machines inside is.
     let body : WholeWorld = record { rings = rings; machines = machines } in
@@ -212,7 +212,7 @@ module _ (w : ℕ) (rings : List WorldRing) (old mid new : MachineState WorldRec
             (answered-turn machines inside is (Query r what) (Told (query_answer s.ring.setup s.ring.history what)) Went _ _ same goes))),
       )
 
--- ---- a record is given back
+-- ---- a record is submitted or discarded
 
 module _ (w : ℕ) (rings : List WorldRing) (old mid new : MachineState WorldRecord) (owned : WorldRecord) (s s' : WorldRing) (ready : old.phase ≡ phase.Ready) (program : mid.program ≡ old.program) (low : owned.ring < length rings) (there : s ≡ get_or rings owned.ring s)
     (gives : GivingBack) (hands : RecordPlace → List ℕ → TurnEvent) (call : HelperCall) (id : ℕ) (kind : pending_call_of call ≡ asked.GiveBack) (tells : TellsEvent turn.Went (hands (place_of owned) owned.reservation.granted.bytes)) (found : held_record id old.records ≡ Some owned) (left : mid.records ≡ others id old.records) (mine : owned.reservation.granted.worker ≡ w) where

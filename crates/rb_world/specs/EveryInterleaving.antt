@@ -1,4 +1,4 @@
--- What holds of a world after the turns of any list of actors, in any order.
+-- Properties of a world after the turns of any list of actors, in any order.
 use Rattle.std.specs.Prelude.{ℕ, ◌≡◌, ◌≢◌, ◌<◌, ◌≤◌, ◌==◌, Bool, true, false, List, [], ◌∷◌, ◌++◌, if◌then◌else◌, Option, Some, None, count_by, length}
 use Rattle.std.specs.List.{All, Contains, filter_map}
 use Rattle.rb_program.specs.Program.{unit_count}
@@ -17,7 +17,7 @@ use Rattle.rb_world.specs.declared.actor.Actor.TheVariants.{Worker, Consumer, Ke
 use Rattle.rb_world.specs.Turns.{TurnEvent, HandedOver, WorldStep, WorldRun}
 use Rattle.rb_world.specs.OpeningWorld.{IsOpeningWorld, IsActor}
 
--- how many turns a worker had
+-- the number of turns that a worker had
 abbrev pub is_turn_of : ℕ → Actor → Bool
 is_turn_of w (Worker v) = v == w
 is_turn_of w (Consumer r) = false
@@ -26,7 +26,7 @@ is_turn_of w (Keeper r) = false
 abbrev pub turns_of : ℕ → List Actor → ℕ
 turns_of w actors = count_by (is_turn_of w) actors
 
--- a worker holds the record of a ring at a position, under an id
+-- a worker holds, under an id, the record of a ring at a position
 pub record HoldsRecord (x : WorkerState) (id r p k : ℕ) : Type 0 where
   pub held : x.held id ≡ Some (record { ring = r; pos = p; serial = k })
 
@@ -34,17 +34,17 @@ pub record HoldsRecord (x : WorkerState) (id r p k : ℕ) : Type 0 where
 abbrev pub HasFinished : WorkerState → Type 0
 HasFinished x = (n : ℕ) × (x.status ≡ Finished n)
 
--- a busy record of a ring, of this position, worker, serial and length
+-- a ring has a busy record with this position, worker, serial and length
 abbrev pub IsBusyIn : World → (r p w k n : ℕ) → Type 0
 IsBusyIn world r p w k n = IsBusy (world.rings r).ring.history p w k n
 
--- a busy record of a ring, of this position, worker and serial, with as many bytes as the worker's memory has in the record of an
--- id
+-- a ring has a busy record with this position, worker and serial, as long as the record that the worker's memory has
+-- under an id
 abbrev pub IsBusyAsHeld : World → (w id r p k : ℕ) → Type 0
 IsBusyAsHeld world w id r p k =
     (bytes : List ℕ) × (record_named id (world.workers w).state.memory.records ≡ Some bytes) × IsBusyIn world r p w k (length bytes)
 
--- the position of the record that an entry grants, and of one that was taken
+-- the position of the record that an entry grants, and of a record that was taken
 abbrev pub granted_position : Entry → Option ℕ
 granted_position (Res w k n p) = Some p
 granted_position _ = None
@@ -59,8 +59,8 @@ abbrev pub AreTakenInOrder : WorldRing → Type 0
 AreTakenInOrder b =
     (rest : List ℕ) × (filter_map granted_position b.ring.history ≡ filter_map taken_position b.taken ++ rest)
 
--- what was handed over at a ring, by what the turns told: each time the position of the record, the worker that handed it
--- over, and the bytes
+-- what was handed over at a ring, according to the events of turns: each time the position of the record, the worker
+-- that handed it over, and the bytes
 abbrev pub handed_by : ℕ → TurnEvent → List (ℕ × ℕ × List ℕ)
 handed_by r (HandedOver s w p bytes) = if r == s then (p, w, bytes) ∷ [] else []
 handed_by r event = []
@@ -69,19 +69,19 @@ abbrev pub handed_at : ℕ → List TurnEvent → List (ℕ × ℕ × List ℕ)
 handed_at r [] = []
 handed_at r (event ∷ events) = handed_by r event ++ handed_at r events
 
--- whether this was handed over at a position
+-- whether it was handed over at a position
 abbrev pub is_handed_at : ℕ → ℕ × ℕ × List ℕ → Bool
 is_handed_at p handed = handed.0 == p
 
--- the record at a position was granted to a worker, with so many bytes, and submitted
+-- the record at a position was granted to a worker, with n bytes, and submitted
 pub record IsSubmittedBy (h : List Entry) (p w n : ℕ) : Type 0 where
   pub serial : ℕ
   pub granted_is : Contains h (Res w serial n p)
   pub submitted : is_submitted_at h p ≡ true
 
--- what holds of the ring and of what was handed over and taken: at a position bytes are handed over once at most, by one worker;
--- what is handed over is of a record that the worker was granted and that was submitted, as long as that record; and the bytes
--- that are taken as a worker's event are those that this worker handed over there
+-- Invariant of a ring, of what was handed over to it and of what was taken from it. At each position, bytes are handed
+-- over at most once, by one worker. They belong to a record of the same length that the worker was granted and that was
+-- submitted. The bytes taken as a worker's event are those that this worker handed over there.
 pub record IsTrueRing (workers : ℕ) (handed : List (ℕ × ℕ × List ℕ)) (b : WorldRing) : Type 0 where
   pub legal : IsLegal b.ring.setup b.ring.history
   pub stands : StandsFor b.ring
@@ -92,8 +92,9 @@ pub record IsTrueRing (workers : ℕ) (handed : List (ℕ × ℕ × List ℕ)) (
   pub taken_as_handed : (p w k : ℕ) (bytes : List ℕ) → Contains b.taken (Event p w k bytes) → Contains handed (p, w, bytes)
   pub taken_in_order : AreTakenInOrder b
 
--- no worker came to an instruction without a meaning or had a record handed back; one that had as many turns as its program
--- has units is finished; the busy records are those that the workers that still run hold, each by one worker under one id
+-- No worker reached an instruction without a meaning or had a record handed back. A worker that had as many turns as
+-- its program has units has finished. The busy records are those that running workers hold, each held by one worker
+-- under one id.
 pub record IsWellRun (actors : List Actor) (events : List TurnEvent) (world : World) : Type 0 where
   pub never_halted : (w : ℕ) → w < world.worker_count → (world.workers w).status ≢ Halted
   pub never_strayed : (w : ℕ) → w < world.worker_count → (world.workers w).status ≢ Strayed
@@ -111,8 +112,8 @@ EveryInterleavingIsWell =
     (first last : World) (actors : List Actor) (events : List TurnEvent) → IsOpeningWorld first → All (IsActor first.worker_count) actors
     → WorldRun first actors events last → IsWellRun actors events last
 
--- A world comes of the turns of some actors, in this order, from an opening of verified programs; `events` is what happened in
--- each.
+-- A world reached by the turns of these actors, in this order, from an opening of verified programs. `events` is what
+-- happened in each turn.
 pub record IsReachedWorld (world : World) : Type 0 where
   pub first : World
   pub actors : List Actor
@@ -122,12 +123,12 @@ pub record IsReachedWorld (world : World) : Type 0 where
   pub run : WorldRun first actors events world
   pub count : world.worker_count ≡ first.worker_count
 
--- one more turn of an actor that is there leads on
+-- one more turn of an existing actor leads to another reachable world
 abbrev pub TurnsLeadOn : Type 0
 TurnsLeadOn =
     (old new : World) (actor : Actor) (event : TurnEvent) → IsReachedWorld old → IsActor old.worker_count actor → WorldStep old actor event new
     → IsReachedWorld new
 
--- every world that is reached is well, by the turns that led to it
+-- every reachable world is well, by the turns that led to it
 abbrev pub ReachedWorldsAreWell : Type 0
 ReachedWorldsAreWell = (world : World) (reached : IsReachedWorld world) → IsWellRun reached.actors reached.events world

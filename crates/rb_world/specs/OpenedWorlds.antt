@@ -1,4 +1,4 @@
--- How worlds are opened: when they may be, and what they are then (own).
+-- When a world may be opened, and its state then (own).
 use Rattle.std.specs.Prelude.{ℕ, ◌≡◌, ◌≤◌, ◌+◌, List, [], ◌∷◌, All, length}
 use Rattle.std.specs.List.{AllZip}
 use Rattle.rb_history.specs.RingModel.{IsRingSize, IsStartPosition, IsWorkerCount}
@@ -20,19 +20,19 @@ pub record IsRingSetup (s : RingSetup) : Type 0 where
   pub size : IsRingSize s.size
   pub start : IsStartPosition s.start
 
--- each ring's are
+-- the size and start of every ring are within their bounds
 abbrev pub AreRings : List RingSetup → Type 0
 AreRings rings = All IsRingSetup rings
 
--- each ring's chapters have a lawful room
+-- the chapters of every ring have a valid room
 abbrev pub HaveRooms : List RingSetup → Type 0
 HaveRooms rings = All (λ s. IsChapterRoom s.room) rings
 
--- each context is as long as its program was verified for
+-- every context has the length that its program was verified for
 abbrev pub HaveContexts : List WorkerSetup → Type 0
 HaveContexts workers = All (λ x. length x.context.now ≡ x.program.now.ctx_len) workers
 
--- so many rings are few enough, and enough for each program
+-- there are at most 16 rings, and at least as many as each program was verified for
 abbrev pub HaveRings : ℕ → List WorkerSetup → Type 0
 HaveRings rings workers = (rings ≤ 16) × All (λ x. x.program.now.rings ≤ rings) workers
 
@@ -44,7 +44,7 @@ pub record MayOpen (rings : List RingSetup) (workers : List WorkerSetup) : Type 
   pub worker_count : IsWorkerCount (length workers)
   pub rooms : HaveRooms rings
 
--- a ring of this number for so many workers, with nothing in it, in its first chapter, and with free hands
+-- an empty ring with this number, for this many workers, in its first chapter and with all hands free
 abbrev pub opened_kept_ring : ℕ → ℕ → RingSetup → KeptRing
 opened_kept_ring workers number s = record {
   ring = record { tag = number; state = hand_ring (chapter_ring.opened_ring s.room (record { size = s.size; start = s.start; workers = workers })) (free_book workers) };
@@ -52,12 +52,12 @@ opened_kept_ring workers number s = record {
   taken = [];
 }
 
--- the rings, numbered from here on
+-- the rings, numbered consecutively from a first number
 abbrev pub opened_rings : ℕ → ℕ → List RingSetup → List KeptRing
 opened_rings workers number [] = []
 opened_rings workers number (s ∷ rings) = opened_kept_ring workers number s ∷ opened_rings workers (number + 1) rings
 
--- a machine is at the first instruction of a worker's program, over its context, and holds no record
+-- a machine is at the first instruction of a worker's program, with its context, and holds no record
 pub record IsStarted (x : WorkerSetup) (m : MachineState WorldRecord) : Type 0 where
   pub program : m.program ≡ x.program.now
   pub state : m.state ≡ entry_program_state x.context.now
@@ -65,7 +65,7 @@ pub record IsStarted (x : WorkerSetup) (m : MachineState WorldRecord) : Type 0 w
   pub phase : m.phase ≡ Ready
   pub begins : BeginsVerified (worker_of m)
 
--- the world has the rings and the workers that were asked for, in their order, at their beginning
+-- the world has the rings and workers that were requested, in order, in their initial states
 pub record IsOpenedWorld (rings : List RingSetup) (workers : List WorkerSetup) (v : WorldValue) : Type 0 where
   pub rings_are : v.rings ≡ opened_rings (length workers) 0 rings
   pub machines_are : AllZip IsStarted workers v.machines

@@ -1,4 +1,4 @@
--- How a world begins.
+-- The initial states of a world.
 use Rattle.std.specs.Prelude.{ℕ, ◌≡◌, ◌<◌, List, [], None, length}
 use Rattle.rb_program.specs.Shape.{IsWellShaped, IsInstructionStart}
 use Rattle.rb_verifier.specs.Annotation.{HasValid}
@@ -9,7 +9,7 @@ use Rattle.rb_world.specs.declared.actor.Actor.{Actor}
 use Rattle.rb_world.specs.declared.actor.Actor.TheVariants.{Worker, Consumer, Keeper}
 use Rattle.rb_world.specs.Worlds.{Running, WorkerState, WorldRing, World}
 
--- a worker at the first instruction of a verified program, over a context of its length; it holds no record
+-- a worker at the first instruction of a verified program, with a context of the verified length, holding no record
 pub record BeginsVerified (x : WorkerState) : Type 0 where
   pub well_shaped : IsWellShaped x.subject.program
   pub begins : IsInstructionStart x.subject.program 0
@@ -20,7 +20,7 @@ pub record BeginsVerified (x : WorkerState) : Type 0 where
   pub holds_none : (id : ℕ) → x.held id ≡ None
   pub runs : x.status ≡ Running
 
--- a ring of any size and start, whatever a ring's bounds are, for so many workers and without a history
+-- a ring of any size and start, even out of a ring's bounds, for this many workers and with an empty history
 pub record IsFreshRing (workers : ℕ) (b : WorldRing) : Type 0 where
   pub size : ℕ
   pub start : ℕ
@@ -31,7 +31,7 @@ pub record IsOpeningWorld (world : World) : Type 0 where
   pub workers : (w : ℕ) → w < world.worker_count → BeginsVerified (world.workers w)
   pub rings : (r : ℕ) → IsFreshRing world.worker_count (world.rings r)
 
--- the actor is there
+-- the actor exists
 abbrev pub IsActor : ℕ → Actor → Type 0
 IsActor workers (Worker w) = w < workers
 IsActor workers (Consumer r) = Unit {0}

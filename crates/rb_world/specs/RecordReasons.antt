@@ -1,4 +1,4 @@
--- Why a worker's call for a record comes to none (own).
+-- Reasons for which a worker's call gets no record (own).
 use Rattle.std.specs.Prelude.{ℕ, ◌≡◌, ◌⊎◌, ◌<◌, ◌≤◌, List, length}
 use Rattle.std.specs.List.{slice_index_or}
 use Rattle.rb_chapter_ring.specs.ChapterCalls.{FindsFullByChapter, FindsChapterFull, OutputsByChapter}
@@ -12,33 +12,36 @@ use Rattle.rb_world.specs.WorldValue.{KeptRing, WorldValue, no_kept_ring, world_
 use Rattle.rb_world.specs.declared.actor.Actor.{Actor}
 use Rattle.rb_world.specs.declared.actor.Actor.TheVariants.{Worker}
 
--- the ring has no room for n bytes, which its history says then; or its chapter has none for what would be logged, and nothing changes
+-- the ring has no room for n bytes, and logs the refusal; or its chapter has no room for the entries, and nothing
+-- changes
 abbrev pub FindsNoRoom : (w n : ℕ) → HandRing → HandRing → Type 0
 FindsNoRoom w n old new = (FindsFullByChapter old.ring new.ring w n ⊎ FindsChapterFull old.ring new.ring w n) × (new.hands ≡ old.hands)
 
--- A reserve of n bytes comes to a record in a hand of the worker, or it has one of these reasons: no room; none of the worker's four hands is free; or more
--- than 16 bytes are asked for, for which memory may be refused. In the last two nothing changes.
+-- A reserve of n bytes gets a record in a hand of the worker, or has one of these reasons: no room; all of the worker's
+-- hands are in use; or more than 16 bytes are requested, for which memory may be refused. Nothing changes for the last
+-- two.
 abbrev pub ReservesOrHasReason : (w n : ℕ) → HandRing → HandRing → Type 0
 ReservesOrHasReason w n old new =
     ((hand : ℕ) × (p : ℕ) × (k : ℕ) × GrantsToHand old new w hand n p k) ⊎ (FindsNoRoom w n old new ⊎ ((AreAllOut (hands_of old.hands w) ⊎ (16 < n)) × (new ≡ old)))
 
--- an output likewise, but that it needs no hand
+-- the same for an output, which needs no hand
 abbrev pub OutputsOrHasReason : (w : ℕ) → List ℕ → HandRing → HandRing → Type 0
 OutputsOrHasReason w bytes old new =
     (OutputsByChapter old.ring new.ring w bytes × (new.hands ≡ old.hands)) ⊎ (FindsNoRoom w (length bytes) old new ⊎ ((16 < length bytes) × (new ≡ old)))
 
--- the ring of this number, with its hands
+-- the ring with this number, with its hands
 abbrev pub hands_at : List KeptRing → ℕ → HandRing
 hands_at rings r = (slice_index_or rings r no_kept_ring).ring.state
 
--- where a worker that runs comes to a reserve with flags 0, or to an output with flags of 3 at most, it is so at the ring that the call names
+-- if a running worker's next step is a reserve with flags 0 or an output with flags up to 3, then the ring that the
+-- call names makes a record or has a reason not to
 pub record HasReasons (w : ℕ) (x : WorkerState) (old new : List KeptRing) : Type 0 where
   pub reserve : (id r n : ℕ) (t : State) → x.status ≡ Running → next_step x.subject.program x.state ≡ Asks (Reserve id r n 0) t
       → ReservesOrHasReason w n (hands_at old r) (hands_at new r)
   pub output : (r flags : ℕ) (bytes : List ℕ) (t : State) → flags ≤ 3 → x.status ≡ Running → next_step x.subject.program x.state ≡ Asks (Output r bytes flags) t
       → OutputsOrHasReason w bytes (hands_at old r) (hands_at new r)
 
--- in a worker's turn
+-- this holds for a worker's turn
 abbrev pub TurnHasReasons : Actor → WorldValue → WorldValue → Type 0
 TurnHasReasons (Worker w) old new = HasReasons w ((world_of old).workers w) old.rings new.rings
 TurnHasReasons actor old new = Unit {0}

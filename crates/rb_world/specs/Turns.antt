@@ -1,5 +1,5 @@
--- The turns of a world: in each one worker executes one instruction, the consumer of one ring makes one take, or the keeper of one
--- ring hands a chapter out.
+-- The turns of a world: one worker executes one instruction, the consumer of one ring makes one take, or the keeper of
+-- one ring hands a chapter out.
 use Rattle.std.specs.Prelude.{ℕ, ◌≡◌, List, [], ◌∷◌, Option, Some, None}
 use Rattle.rb_history.specs.declared.answers.Taken.{Taken}
 use Rattle.rb_history.specs.declared.answers.Taken.TheVariants.{Event, Skipped, BusyFront, Empty}
@@ -14,10 +14,11 @@ use Rattle.rb_world.specs.declared.actor.Actor.TheVariants.{Worker, Consumer, Ke
 use Rattle.rb_world.specs.Worlds.{RecordPlace, HeldRecords, WorkerStatus, Running, Finished, Halted, Strayed, WorkerState, WorldRing, World, table_with, with_worker, with_ring}
 use Rattle.rb_world.specs.CallsInWorld.{RingSteps, RecordOutcome, Made, WorkerReserves, answer_to_reserve, held_after_reserve, WorkerOutputs, answer_to_output, granted_at, WorkerSubmits, WorkerDiscards}
 
--- what happened in a turn: an instruction was executed, and where it is one that hands bytes over the ring, the worker that does
--- so, the position of their record and the bytes; the program ended, it is at an instruction or an answer without a meaning, a
--- record was handed back, or the worker does not run any more; what a take found; a chapter was handed out; or memory for a
--- take or a chapter was refused
+-- What happened in a turn. `Went`: an instruction was executed. `HandedOver`: an instruction handed bytes over to a
+-- ring, with the worker that did so, the position of the record, and the bytes. `Ended`: the program ended. `GotStuck`:
+-- the instruction or the answer has no meaning. `GotBack`: a record was handed back. `Idle`: the worker no longer runs.
+-- `Took`: the result of a take. `HandedChapter`: a chapter was handed out. `NoMemory`: memory for a take or a chapter
+-- was refused.
 pub data TurnEvent : Type 0 where
   Went : TurnEvent
   HandedOver : (ring worker pos : ℕ) → List ℕ → TurnEvent
@@ -31,7 +32,7 @@ pub data TurnEvent : Type 0 where
 
 -- ---- a worker's turn
 
--- how a worker goes on with an answer, and what happened then
+-- how a worker continues after an answer, and what happened then
 abbrev pub worker_after : Resumption → WorkerState → WorkerState
 worker_after (Resumes s) x = record x { state = s }
 worker_after Strays x = record x { status = Strayed }
@@ -42,13 +43,13 @@ event_of on (Resumes s) = on
 event_of on Strays = GotBack
 event_of on Unfit = GotStuck
 
--- A call of a worker, which waits in a state, is answered: it goes on from that state, and holds these records then, and the
--- ring is so. `on` is what happened where the worker goes on.
+-- The call of a worker that waits in state `t` is answered: the worker continues from that state and then holds these
+-- records, and the ring's new state is `b`. `on` is the event if the worker continues.
 pub record GetsAnswer (w : ℕ) (call : HelperCall) (t : State) (answer : HelperAnswer) (on : TurnEvent) (held : HeldRecords) (r : ℕ) (b : WorldRing) (old : World) (event : TurnEvent) (new : World) : Type 0 where
   pub told : event ≡ event_of on (resume (pending_call_of call) answer t)
   pub world : new ≡ with_ring r b (with_worker w (worker_after (resume (pending_call_of call) answer t) (record (old.workers w) { held = held; state = t })) old)
 
--- what gives a record back: a submit or a discard
+-- a call that ends a record: submit or discard
 abbrev pub GivingBack : Type 1
 GivingBack = Granted → HelperAnswer → WorldRing → WorldRing → Type 0
 
@@ -63,8 +64,8 @@ abbrev pub output_event : (w r : ℕ) → List ℕ → RecordOutcome → TurnEve
 output_event w r bytes (Made p k) = HandedOver r w p bytes
 output_event w r bytes outcome = Went
 
--- A worker gives back the record that it holds under an id, to the ring on which it was reserved; what it does not hold is
--- handed back.
+-- A worker submits or discards the record that it holds under an id, at the ring that granted it. If it holds none
+-- under this id, the call is answered `HandedBack`.
 abbrev pub GivesRecordBack : GivingBack → (RecordPlace → List ℕ → TurnEvent) → ℕ → HelperCall → State → ℕ → List ℕ → Option RecordPlace → World → TurnEvent → World → Type 0
 GivesRecordBack gives on w call t id bytes None old event new =
     GetsAnswer w call t HandedBack Went (old.workers w).held 0 (old.rings 0) old event new
@@ -87,28 +88,28 @@ MakesCall w (Output r bytes flags) t old event new =
 MakesCall w (Query r what) t old event new =
     GetsAnswer w (Query r what) t (Told (query_answer (old.rings r).ring.setup (old.rings r).ring.history what)) Went (old.workers w).held r (old.rings r) old event new
 
--- a worker does what its program means at the next instruction
+-- a worker performs its program's next step
 abbrev pub ExecutesStep : ℕ → StepEffect → World → TurnEvent → World → Type 0
 ExecutesStep w (Goes t) old event new = (event ≡ Went) × (new ≡ with_worker w (record (old.workers w) { state = t }) old)
 ExecutesStep w (Ends n) old event new = (event ≡ Ended n) × (new ≡ with_worker w (record (old.workers w) { status = Finished n }) old)
 ExecutesStep w (Asks call t) old event new = MakesCall w call t old event new
 ExecutesStep w Stuck old event new = (event ≡ GotStuck) × (new ≡ with_worker w (record (old.workers w) { status = Halted }) old)
 
--- a worker that does not run any more does nothing
+-- a worker that no longer runs does nothing
 abbrev pub TakesWorkerTurn : ℕ → WorkerStatus → World → TurnEvent → World → Type 0
 TakesWorkerTurn w Running old event new = ExecutesStep w (next_step (old.workers w).subject.program (old.workers w).state) old event new
 TakesWorkerTurn w _ old event new = (event ≡ Idle) × (new ≡ old)
 
 -- ---- a consumer's turn
 
--- what a take adds to what was taken
+-- what a take appends to the list of taken records
 abbrev pub taken_by : Taken → List Taken
 taken_by (Event p w k bytes) = Event p w k bytes ∷ []
 taken_by (Skipped p n) = Skipped p n ∷ []
 taken_by BusyFront = []
 taken_by Empty = []
 
--- a take, or that memory for it is refused, which is a free choice
+-- a take, or memory for it is refused, which is a free choice
 abbrev pub TakesConsumerTurn : ℕ → World → TurnEvent → World → Type 0
 TakesConsumerTurn r old (Took found) new =
     (b : WorldRing) × RingSteps (λ v v'. Takes v v' found) (taken_by found) (old.rings r) b × (new ≡ with_ring r b old)
@@ -117,8 +118,8 @@ TakesConsumerTurn r old event new = ⊥
 
 -- ---- a keeper's turn
 
--- A ring's whole history is that of all its chapters: so a keeper's turn changes nothing, whether a chapter was handed out or memory
--- for the next one was refused.
+-- A ring's whole history spans all its chapters. So a keeper's turn changes nothing, whether a chapter was handed out
+-- or memory for the next one was refused.
 abbrev pub TakesKeeperTurn : World → TurnEvent → World → Type 0
 TakesKeeperTurn old HandedChapter new = new ≡ old
 TakesKeeperTurn old NoMemory new = new ≡ old
@@ -132,7 +133,7 @@ WorldStep old (Worker w) event new = TakesWorkerTurn w (old.workers w).status ol
 WorldStep old (Consumer r) event new = TakesConsumerTurn r old event new
 WorldStep old (Keeper r) event new = TakesKeeperTurn old event new
 
--- the turns of a list of actors, one after the other, and what happened in each
+-- the turns of a list of actors in order, and what happened in each
 abbrev pub WorldRun : World → List Actor → List TurnEvent → World → Type 0
 WorldRun old [] [] new = new ≡ old
 WorldRun old (actor ∷ actors) (event ∷ events) new = (next : World) × WorldStep old actor event next × WorldRun next actors events new

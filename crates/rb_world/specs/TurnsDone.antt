@@ -1,4 +1,4 @@
--- What a turn answers of what happened in it (own).
+-- How the result of a turn reports what happened in it (own).
 use Rattle.std.specs.Prelude.{ℕ, ◌≡◌, List, [], ◌∷◌, ◌++◌, map, slice_set}
 use Rattle.std.specs.List.{slice_index_or}
 use Rattle.rb_history.specs.declared.answers.Taken.TheVariants.{Event, Skipped as SkippedRecord, BusyFront, Empty}
@@ -11,7 +11,7 @@ use Rattle.rb_world.specs.declared.turn_done.TurnDone.{TurnDone}
 use Rattle.rb_world.specs.declared.turn_done.TurnDone.TheVariants as answer
 use Rattle.rb_world.specs.WorldValue.{KeptRing, WorldValue, WholeWorld, whole_world, shown_world, no_kept_ring}
 
--- the answer tells the event
+-- the result reports the event
 abbrev pub TellsEvent : TurnDone → TurnEvent → Type 0
 TellsEvent answer.Went Went = Unit {0}
 TellsEvent answer.Went (HandedOver r w p bytes) = Unit {0}
@@ -32,13 +32,13 @@ IsWholeTurn actor old done new = (event : TurnEvent) × TellsEvent done event ×
 abbrev pub IsTurnOf : Actor → WorldValue → TurnDone → WorldValue → Type 0
 IsTurnOf actor old done new = IsWholeTurn actor (whole_world old) done (whole_world new)
 
--- ---- what becomes of the chapters
+-- ---- effects on chapters
 
--- the number of a ring and its chapters: those that were handed out, and the one that it keeps, whatever its entries
+-- the number of a ring and its chapters: those that were handed out, and the current one without its entries
 abbrev pub chapters_of : KeptRing → ℕ × List Chapter × Chapter
 chapters_of s = (s.ring.tag, s.chapters, record s.ring.state.ring.chapter { entries = [] })
 
--- the ring handed its chapter out, which has this number, and the world keeps it; nothing else changed
+-- the ring handed out its chapter, which has this number, and the world keeps it; nothing else changed
 pub record HandsChapterOut (number : ℕ) (old new : KeptRing) : Type 0 where
   pub number_is : number ≡ old.ring.state.ring.chapter.number
   pub handed_out : HandsOut old.ring.state.ring new.ring.state.ring old.ring.state.ring.chapter
@@ -47,8 +47,8 @@ pub record HandsChapterOut (number : ℕ) (old new : KeptRing) : Type 0 where
   pub kept : new.chapters ≡ old.chapters ++ old.ring.state.ring.chapter ∷ []
   pub taken_same : new.taken ≡ old.taken
 
--- a keeper that answers a chapter's number handed that chapter out, and a keeper without memory did nothing; the turns of others leave
--- each ring in its chapter
+-- a keeper that returned a chapter's number handed that chapter out, and a keeper without memory did nothing; the turns
+-- of other actors leave every ring in its chapter
 abbrev pub TurnsChaptersOf : Actor → TurnDone → List KeptRing → List KeptRing → Type 0
 TurnsChaptersOf (Keeper r) (answer.Chapter n) old new = (s : KeptRing) × HandsChapterOut n (slice_index_or old r no_kept_ring) s × (new ≡ slice_set old r s)
 TurnsChaptersOf (Keeper r) done old new = new ≡ old

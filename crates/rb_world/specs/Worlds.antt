@@ -5,25 +5,25 @@ use Rattle.rb_semantics.specs.ProgramStates.{State}
 use Rattle.rb_history.specs.declared.answers.Taken.{Taken}
 use Rattle.rb_history.specs.RingModel.{Ring}
 
--- where a record stands: its ring, its position there, and how many records of that ring its worker was granted before
+-- the place of a record: its ring, its position there, and how many records that ring had granted to its worker before
 pub record RecordPlace : Type 0 where
   pub ring : ℕ
   pub pos : ℕ
   pub serial : ℕ
 
--- which records a worker holds: each under the unit of the CALL that reserved it, as in the memory of its program
+-- the records that a worker holds, each under the unit of the CALL that reserved it, as in its program's memory
 abbrev pub HeldRecords : Type 0
 HeldRecords = ℕ → Option RecordPlace
 
--- A worker runs, or its program ended with a result, or stands at an instruction without a meaning, or a record was handed
--- back to it.
+-- A worker is running, or its program ended with a result, or it reached an instruction without a meaning, or a record
+-- was handed back to it.
 pub data WorkerStatus : Type 0 where
   Running : WorkerStatus
   Finished : ℕ → WorkerStatus
   Halted : WorkerStatus
   Strayed : WorkerStatus
 
--- a worker: its program, the state that the program is in, the records that it holds, and whether it runs
+-- a worker: its program, the program's state, the records that it holds, and its status
 pub record WorkerState : Type 0 where
   pub subject : Subject
   pub state : State
@@ -35,17 +35,18 @@ pub record WorldRing : Type 0 where
   pub ring : Ring
   pub taken : List Taken
 
--- Workers are numbered from 0 up to their count, and rings from 0 on; a program knows rings of low numbers alone.
+-- Workers are numbered from 0 to their count, exclusive, and rings from 0. A program refers to rings by low numbers
+-- only.
 pub record World : Type 0 where
   pub worker_count : ℕ
   pub workers : ℕ → WorkerState
   pub rings : ℕ → WorldRing
 
--- a table in which one place has another value
+-- a table with another value at one index
 abbrev pub table_with : {X : Type 0} → ℕ → X → (ℕ → X) → ℕ → X
 table_with i x table j = if j == i then x else table j
 
--- the world in which one worker, or one ring, is another
+-- the world with one worker, or one ring, replaced
 abbrev pub with_worker : ℕ → WorkerState → World → World
 with_worker w x world = record world { workers = table_with w x world.workers }
 

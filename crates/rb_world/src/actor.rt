@@ -1,13 +1,14 @@
-//! Who has a turn in a world.
+//! The actors of a world.
 
-/// Who has a turn in a world.
+/// An actor of a world: whoever takes a turn.
 #[derive(Clone, Copy, Debug, PartialEq, Eq)]
 pub enum Actor {
-    /// The worker of this number, counted from 0: it executes one instruction, and where that is a call, the call is answered
-    /// in the same turn.
+    /// A worker, numbered from 0. Its turn executes one instruction. If that is a helper call, the same turn answers
+    /// it.
     Worker(u32),
-    /// The consumer of the ring of this number, counted from 0: it makes one take.
+    /// The consumer of a ring, numbered from 0. Its turn is one take.
     Consumer(u32),
-    /// The keeper of the ring of this number, counted from 0: it hands the ring's chapter out, and the ring goes on in the next.
+    /// The keeper of a ring, numbered from 0. Its turn hands out the ring's chapter, and the ring continues in the next
+    /// one.
     Keeper(u32),
 }

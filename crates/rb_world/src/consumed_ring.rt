@@ -1,4 +1,4 @@
-//! A ring of a world, the chapters that it handed out, and what its consumer took of it.
+//! A ring of a world, with the chapters that it handed out and the records that its consumer took.
 
 use crate::ring_answers;
 use crate::turn_done::TurnDone;
@@ -9,7 +9,7 @@ use rb_interp::{Answer, Machine};
 use std::alloc::{AllocError, Global};
 use std::marker::Model;
 
-// A ring, the chapters that it handed out, oldest first, and what its consumer took of it, in order.
+// A ring, the chapters that it handed out (oldest first), and what its consumer took, in order.
 #[derive(Drop)]
 pub(crate) struct ConsumedRing {
     pub(crate) ring: RingState,
@@ -50,7 +50,7 @@ impl ConsumedRing {
     ghost use Rattle.rb_world.specs.TurnsDone.{chapters_of};
     ghost use Rattle.rb_world.specs.WorldValue.{world_ring};
 
-    // What every ring is: its chapter goes on where those that were handed out end, and they bind.
+    // The invariant of every ring: its chapters are consecutive and form one history.
     pub(crate) fn facts(&self)
         ensures binds { Binds self.now.chapters self.now.ring.state.ring.chapter }
         ensures kept { IsKept (joined self.now.chapters) self.now.ring.state.ring.chapter }
@@ -58,7 +58,7 @@ impl ConsumedRing {
         let _ = &self.ring;
     }
 
-    // Answers the reserve of a worker that waits.
+    // Answers the reserve of a waiting worker.
     pub(crate) fn answer_reserve(
         &mut self,
         machine: &mut Machine<'_, &[u8], WorldRecord>,
@@ -89,7 +89,7 @@ impl ConsumedRing {
         }
     }
 
-    // Answers the output of a worker that waits.
+    // Answers the output of a waiting worker.
     pub(crate) fn answer_output(
         &mut self,
         machine: &mut Machine<'_, &[u8], WorldRecord>,
@@ -110,7 +110,7 @@ impl ConsumedRing {
         machine.answer(Answer::Code(code));
     }
 
-    // Answers the submit or the discard of a worker that waits, of a record that is out in its hand.
+    // Answers the submit or discard of a waiting worker. The record is out in the worker's hand.
     pub(crate) fn answer_given_back(
         &mut self,
         machine: &mut Machine<'_, &[u8], WorldRecord>,
@@ -132,7 +132,7 @@ impl ConsumedRing {
         machine.answer(Answer::Taken);
     }
 
-    // Answers the query of a worker that waits.
+    // Answers the query of a waiting worker.
     pub(crate) fn answer_query(&self, machine: &mut Machine<'_, &[u8], WorldRecord>, what: u64)
         requires waits { machine.old.phase ≡ phase.Waiting asked.Query }
         ensures answered { AnswersQuery what machine.old (world_ring self.now) machine.new }
@@ -142,7 +142,7 @@ impl ConsumedRing {
         machine.answer(Answer::Told(self.ring.query(what)));
     }
 
-    // One take of the ring's consumer; `Memory` where the list of what was taken can't grow.
+    // Performs one take for the ring's consumer. Returns `Memory` if the list of taken records cannot grow.
     pub(crate) fn consume(&mut self) -> TurnDone
         ensures taken { TakesOnce (world_ring self.old) result (world_ring self.new) }
         ensures hands { hands_shown self.new ≡ hands_shown self.old }
@@ -168,7 +168,8 @@ impl ConsumedRing {
         }
     }
 
-    // Hands the ring's chapter out, and keeps it; `Memory` where there is none for the next chapter.
+    // Hands out the ring's chapter and appends it to the list of chapters. Returns `Memory` if the next chapter cannot
+    // be allocated.
     pub(crate) fn hand_out(&mut self, alloc: Global) -> TurnDone
         ensures turned { KeepsChapter self.old result self.new }
         ensures hands { hands_shown self.new ≡ hands_shown self.old }
@@ -191,7 +192,7 @@ impl ConsumedRing {
     }
 }
 
-// An empty chapter of the ring's room and workers.
+// Returns an empty chapter with the ring's room and number of workers.
 fn next_chapter(alloc: Global, ring: &RingState) -> Result<Chapter, AllocError> {
     ring.facts();
     let chapter = ring.chapter();

@@ -1,20 +1,22 @@
-//! Verified programs and ring buffers in turns, without a thread or a lock: every interleaving of their steps can be run, and
-//! seen. A `World` has a machine for each worker, and a consumer and a keeper for each ring; a `turn` of a worker executes one
-//! instruction, a call included, a `turn` of a consumer makes one take, and a `turn` of a keeper hands the ring's chapter out, which the
-//! world keeps. Calls answer as bpf-helpers(7) has it for bpf_ringbuf_reserve,
-//! bpf_ringbuf_submit, bpf_ringbuf_discard, bpf_ringbuf_output and bpf_ringbuf_query, over rings after Linux
+//! Runs verified programs and ring buffers in turns, without threads or locks, so that every interleaving of their
+//! steps can be replayed and inspected.
+//!
+//! A `World` has a machine for each worker, and a consumer and a keeper for each ring. A worker's `turn` executes one
+//! instruction, including the answer if it is a helper call. A consumer's turn makes one take. A keeper's turn hands
+//! out the ring's chapter, which the world keeps. Calls are answered as bpf-helpers(7) describes bpf_ringbuf_reserve,
+//! bpf_ringbuf_submit, bpf_ringbuf_discard, bpf_ringbuf_output and bpf_ringbuf_query; the rings follow Linux
 //! Documentation/bpf/ringbuf.rst.
 //!
-//! Each turn is one turn of the definitions (`specs/Turns.antt`), so whatever list of actors is run, no worker is ever stuck
-//! and no record is handed back, the busy records of each ring are exactly those that unfinished workers hold, and what is
-//! taken as an event of a worker are the bytes that this worker handed over, in the order of reservation.
+//! Each turn is one turn of the definitions in `specs/Turns.antt`. So for every list of actors, no worker gets stuck
+//! and no record is returned as a stray; the busy records of each ring are exactly those that unfinished workers hold;
+//! and the bytes taken as a worker's event are the bytes that this worker handed over, in the order of reservation.
 //!
 //! ```text
 //! let worker = WorkerSetup { program: &program, context: &[] };
 //! let ring = RingSetup { size: 4096, start: 0, room: 65_536 };
 //! let mut world = World::new(alloc, [ring].as_slice(), [worker, worker].as_slice())?;
 //! for _ in 0..4 {
-//!     world.turn(Actor::Worker(0));       // comes to its reservation
+//!     world.turn(Actor::Worker(0));       // runs up to and including its reserve
 //! }
 //! world.at(0);                            // Some(5): the next unit
 //! world.turn(Actor::Consumer(0));         // BusyFront: the record is not submitted yet
@@ -22,10 +24,10 @@
 //!
 //! # Every interleaving
 //!
-//! `specs/Worlds.antt` and `specs/Turns.antt` say what a world is and what one turn of an actor does to it, over what
-//! programs mean (`rb_semantics`) and what a ring's history may be (`rb_history`), and the law on every list of turns is the
-//! contract of `every_interleaving_is_well` (`specs/EveryInterleaving.antt`). What threads promise in place of it stands beside this law in
-//! docs/PROOF_STATUS.md, "Every interleaving, and running threads".
+//! `specs/Worlds.antt` and `specs/Turns.antt` define a world and the effect of one turn, based on the semantics of
+//! programs (`rb_semantics`) and the histories of rings (`rb_history`). The contract of `every_interleaving_is_well`
+//! (`specs/EveryInterleaving.antt`) is the theorem about every list of turns. docs/PROOF_STATUS.md compares it with
+//! what is proved for running threads, in "Every interleaving, and running threads".
 #![tactic(auto)]
 
 mod actor;

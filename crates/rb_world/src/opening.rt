@@ -1,4 +1,4 @@
-//! What a world is opened with.
+//! The parameters of a world.
 
 ghost use Rattle.std.specs.Prelude.{◌≡◌, ◌↔◌, IsTrue, OnOk, IfOk, IfErr, length};
 ghost use Rattle.std.specs.List.{AllZip};
@@ -16,23 +16,23 @@ use rb_interp::Machine;
 use rb_verifier::Verified;
 use std::alloc::{AllocError, Global};
 
-/// The size of a ring and its start, both in bytes, and the room of its chapters.
+/// The parameters of a ring: its size and start, both in bytes, and the room of its chapters.
 #[derive(Clone, Copy, Debug, PartialEq, Eq)]
 pub struct RingSetup {
-    /// A power of two from 4,096 to 67,108,864.
+    /// The size in bytes: a power of two from 4,096 to 67,108,864.
     pub size: u64,
     /// The first position: a multiple of 8, at most 2^61.
     pub start: u64,
-    /// How many entries a chapter of the ring's history has room for: 8 to 1,048,576.
+    /// The capacity of a chapter of the ring's history, in entries: 8 to 1,048,576.
     pub room: u32,
 }
 
-/// The program of a worker, and its context.
+/// A worker's program and its context.
 #[derive(Clone, Copy)]
 pub struct WorkerSetup<'p> {
     /// The program.
     pub program: &'p Verified,
-    /// The bytes of its context, as many as the program was verified for.
+    /// The bytes of the context. Their number is the context length that the program was verified for.
     pub context: &'p [u8],
 }
 
@@ -46,7 +46,7 @@ fn is_ring(setup: RingSetup) -> bool
     is_start(setup.start)
 }
 
-// Whether each ring's are.
+// Whether the size and start of every ring are within their bounds.
 fn are_rings(rings: &[RingSetup]) -> bool
     ensures { IsTrue result ↔ AreRings rings.now }
 {
@@ -58,7 +58,7 @@ fn are_rings(rings: &[RingSetup]) -> bool
     true
 }
 
-// Whether a chapter may have so much room.
+// Whether a chapter may have this room.
 fn is_room(room: u32) -> bool
     ensures { IsTrue result ↔ IsChapterRoom room }
 {
@@ -68,7 +68,7 @@ fn is_room(room: u32) -> bool
     room <= 1_048_576
 }
 
-// Whether each ring's chapters may have the room that is asked for.
+// Whether the chapters of every ring may have the room that is requested.
 fn have_rooms(rings: &[RingSetup]) -> bool
     ensures { IsTrue result ↔ HaveRooms rings.now }
 {
@@ -80,7 +80,7 @@ fn have_rooms(rings: &[RingSetup]) -> bool
     true
 }
 
-// Whether all contexts have their program's length.
+// Whether every context has the length that its program was verified for.
 fn have_contexts(workers: &[WorkerSetup<'_>]) -> bool
     ensures { IsTrue result ↔ HaveContexts workers.now }
 {
@@ -92,7 +92,7 @@ fn have_contexts(workers: &[WorkerSetup<'_>]) -> bool
     true
 }
 
-// Whether so many rings are few enough, and enough for each program.
+// Whether there are at most 16 rings, and at least as many as each program was verified for.
 fn have_rings(rings: usize, workers: &[WorkerSetup<'_>]) -> bool
     ensures { IsTrue result ↔ HaveRings rings workers.now }
 {
@@ -107,7 +107,7 @@ fn have_rings(rings: usize, workers: &[WorkerSetup<'_>]) -> bool
     true
 }
 
-// The first refusal that applies, never for memory.
+// Returns the first refusal that applies, other than `Memory`.
 pub(crate) fn check_setups(
     rings: &[RingSetup],
     workers: &[WorkerSetup<'_>],
@@ -136,7 +136,7 @@ pub(crate) fn check_setups(
     Ok(())
 }
 
-// The rings, each for so many workers, of which nothing was taken. A ring's tag is its number.
+// Returns the rings, opened for this number of workers, with nothing taken. A ring's tag is its number.
 pub(crate) fn open_rings(
     alloc: Global,
     rings: &[RingSetup],
@@ -164,7 +164,7 @@ pub(crate) fn open_rings(
     Ok(opened)
 }
 
-// A worker's machine, at its program's first instruction.
+// Returns a worker's machine at its program's first instruction.
 fn start_machine<'p>(worker: WorkerSetup<'p>) -> Machine<'p, &'p [u8], WorldRecord>
     requires length { length worker.context.now ≡ worker.program.now.ctx_len }
     ensures started { IsStarted worker.entry result }
@@ -177,7 +177,7 @@ fn start_machine<'p>(worker: WorkerSetup<'p>) -> Machine<'p, &'p [u8], WorldReco
     }
 }
 
-// The machines of the workers, each at its program's first instruction.
+// Returns the workers' machines, each at its program's first instruction.
 pub(crate) fn start_machines<'p>(
     alloc: Global,
     workers: &[WorkerSetup<'p>],

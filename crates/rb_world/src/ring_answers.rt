@@ -15,8 +15,8 @@ use rb_interp::{EAGAIN, EINVAL};
 use rb_lend::{Lent, Sheet};
 use std::alloc::Global;
 
-// Reserves a record of `len` bytes for a worker, into its lowest free hand: none where the flags are not 0, where no hand is free, where
-// there is no room, or where memory is refused.
+// Reserves a record of `len` bytes in the worker's lowest free hand. Returns `None` if the flags are not 0, no hand is
+// free, the ring or its chapter has no room, or no memory can be allocated.
 pub(crate) fn reserve(
     ring: &mut RingState,
     alloc: Global,
@@ -49,7 +49,7 @@ pub(crate) fn reserve(
     }
 }
 
-// Puts a copy of some bytes into the ring: `-EINVAL` for flags above 3, `-EAGAIN` where no record could be made, else 0.
+// Puts a copy of `bytes` into the ring. Returns 0, `-EINVAL` for flags above 3, or `-EAGAIN` if no record was made.
 pub(crate) fn output(
     ring: &mut RingState,
     alloc: Global,
@@ -82,7 +82,7 @@ pub(crate) fn output(
     }
 }
 
-// The code of an output that a ring refused.
+// Returns the return code of an output that the ring refused.
 fn code_of_refusal(ring: &RingState, fault: ReserveFault) -> i64
     ensures code { result ≡ neg_ℤ EAGAIN }
     ensures stands { StandsForChapter ring.now.state.ring }
@@ -92,7 +92,8 @@ fn code_of_refusal(ring: &RingState, fault: ReserveFault) -> i64
     -EAGAIN
 }
 
-// A sheet with a copy of these bytes; none for more than a sheet can have, and where memory is refused.
+// Returns a sheet (the byte buffer of a record) with a copy of `bytes`, or `None` if they exceed a sheet's maximum
+// length or no memory can be allocated.
 fn copy_of(alloc: Global, bytes: &[u8]) -> Option<Sheet>
     ensures copied { IfSome result (λ s. s ≡ bytes.now) }
     ensures long { IfNone result (16 < length bytes.now) }

@@ -10,14 +10,14 @@ use crate::turn_done::TurnDone;
 use crate::world::World;
 use crate::world_fault::WorldFault;
 
-/// What the turns of a list of actors answered.
+/// The results of the turns of a list of actors.
 #[derive(Drop)]
 pub struct Report {
-    /// The answer of each turn, in their order.
+    /// The result of each turn, in order.
     pub turns: Vec<TurnDone>,
 }
 
-// Whether all actors are there, or the place of the first that is not.
+// Returns the index of the first actor that does not exist as an error, or `Ok` if all exist.
 fn check_actors(world: &World<'_>, actors: &[Actor]) -> Result<(), WorldFault>
     ensures known { OnOk result (All (IsThere world.now) actors.now) }
     ensures refused { IfErr result (IsRefusedRun world.now actors.now) }
@@ -31,8 +31,10 @@ fn check_actors(world: &World<'_>, actors: &[Actor]) -> Result<(), WorldFault>
 }
 
 impl<'p> World<'p> {
-    /// The turns of these actors, one after the other, and what each answered. Where an actor of the list is not there, the first such is
-    /// told, and exactly then; where that or the report's want of memory is told, no turn is made.
+    /// Runs the turns of these actors in order, and returns the result of each.
+    ///
+    /// Returns `UnknownActor` with the index of the first actor that does not exist, if there is one, or `Memory` if
+    /// the report cannot be allocated. In both cases no turn is run.
     pub fn run(&mut self, actors: &[Actor]) -> Result<Report, WorldFault>
         ensures ran { IfOk result (λ report. IsRunOf actors.now self.old report.turns.items self.new) }
         ensures turns { IfOk result (λ report. TakesTurns actors.now self.old report.turns.items self.new) }

@@ -1,9 +1,9 @@
-//! What turns answer.
+//! Results of turns.
 
 /// What a turn did.
 #[derive(Clone, Copy, Debug, PartialEq, Eq)]
 pub enum TurnDone {
-    /// The worker executed an instruction, and where that was a call, the call was answered.
+    /// The worker executed an instruction. If it was a helper call, the call was answered.
     Went,
     /// The worker's program ended with this result.
     Finished(u64),
@@ -11,14 +11,14 @@ pub enum TurnDone {
     Idle,
     /// The consumer took an event.
     Took,
-    /// The consumer passed over a discarded record.
+    /// The consumer skipped a discarded record.
     Skipped,
     /// The record at the consumer position is busy. Nothing changed.
     BusyFront,
     /// The ring has no record. Nothing changed.
     Empty,
-    /// The keeper handed the ring's chapter out, which has this number; the world keeps it.
+    /// The keeper handed out the ring's chapter, which has this number. The world keeps it.
     Chapter(u64),
-    /// Memory was refused, for the list of what the consumer took, or for the next chapter. Nothing changed.
+    /// The list of taken records, or the next chapter, could not be allocated. Nothing changed.
     Memory,
 }

@@ -15,7 +15,7 @@ use rb_chapter_ring::RecordEnd;
 use rb_interp::{Machine, Phase, Request, Step};
 use std::alloc::Global;
 
-// One turn of a worker: its next instruction, and where that is a call its answer.
+// Executes the worker's next instruction. If it is a helper call, answers it.
 pub(crate) fn work(
     machine: &mut Machine<'_, &[u8], WorldRecord>,
     rings: &mut Vec<ConsumedRing>,

@@ -13,11 +13,14 @@ use rb_interp::{Machine, Phase};
 use std::alloc::Global;
 use std::marker::Model;
 
-/// A world of workers and rings: each worker has a machine that runs its program, and each ring a consumer and a keeper, who hands
-/// its chapters out for the world to keep. It goes on by
-/// turns, one actor at a time, in any order that the caller likes; nothing waits, and there is no thread and no lock.
+/// A world of workers and rings. Each worker has a machine that runs its program. Each ring has a consumer, and a
+/// keeper that hands out the ring's chapters, which the world keeps.
 ///
-/// Contracts see the machines, the rings with what was taken of them, and the world of the definitions that these show.
+/// A world advances by turns, one actor at a time, in any order that the caller chooses. Nothing blocks, and there are
+/// no threads or locks.
+///
+/// Contracts see the machines, the rings with what was taken from them, and the world of the definitions that these
+/// represent (`world_of`).
 #[derive(Drop)]
 pub struct World<'p> {
     alloc: Global,
@@ -58,10 +61,11 @@ impl<'p> World<'p> {
     ghost use Rattle.rb_chapter_ring.specs.WholeHistory.{Binds, IsBound, IsKept};
     ghost use Rattle.rb_world.specs.WorldValue.{IsThere, ring_at, world_of};
 
-    /// A world with these rings, of which nothing was taken, and these workers, each at the first instruction of its program.
+    /// Opens a world with these rings, from which nothing was taken, and these workers, each at the first instruction
+    /// of its program.
     ///
-    /// A refusal is the first that applies, in the order of `WorldOpenFault`; `Memory` is told only where no other applies. Each but `Memory`
-    /// is told exactly where it is the first that applies.
+    /// Returns the first refusal that applies, in the order of `WorldOpenFault`. A refusal other than `Memory` is
+    /// returned if and only if it is the first that applies; `Memory` is returned only if no other applies.
     pub fn new(
         alloc: Global,
         rings: &[RingSetup],
@@ -93,15 +97,15 @@ impl<'p> World<'p> {
         })
     }
 
-    /// What every world is: it comes of the turns of some actors from an opening of verified programs, so that
-    /// `reached_worlds_are_well` speaks of it. For the proofs of callers; it does nothing.
+    /// The invariant of every world: it was reached by turns from an opening of verified programs, so
+    /// `reached_worlds_are_well` applies to it. For callers' proofs; it does nothing at run time.
     pub fn facts(&self)
         ensures { IsReachedWorld (world_of self.now) }
     {
         let _ = &self.alloc;
     }
 
-    /// Whether the actor is there. In constant time.
+    /// Whether the actor exists. In constant time.
     pub fn has(&self, actor: Actor) -> bool
         ensures { IsTrue result ↔ IsThere self.now actor }
     {
@@ -111,7 +115,7 @@ impl<'p> World<'p> {
         }
     }
 
-    /// All that was taken of a ring, in order: the events, with their bytes, and the records that were passed over.
+    /// Returns everything that was taken from a ring, in order: the events with their bytes, and the skipped records.
     pub fn taken(&self, r: u32) -> &[Taken]
         requires ring { r < length self.now.rings }
         ensures { result.now ≡ ((world_of self.now).rings r).taken }
@@ -119,8 +123,8 @@ impl<'p> World<'p> {
         self.rings[r as usize].taken.as_slice()
     }
 
-    /// A ring, whose positions `query` tells, its counts `counts` and its chapter `chapter`; its tag is its number. What it tells of its history
-    /// is that of all its chapters.
+    /// Returns a ring. Its tag is its number; read its positions by `query`, its counts by `counts` and its chapter by
+    /// `chapter`. Positions and counts are those of its whole history, across all chapters.
     pub fn ring(&self, r: u32) -> &RingState
         requires ring { r < length self.now.rings }
         ensures ring { result.now ≡ (ring_at self.now r).ring }
@@ -132,8 +136,9 @@ impl<'p> World<'p> {
         &self.rings[r as usize].ring
     }
 
-    /// The chapters that a ring handed out, oldest first. With the one that the ring keeps behind them they bind: they are numbered 0
-    /// upward, the first opens the empty ring, each meets the next, and their entries together are the ring's whole history.
+    /// Returns the chapters that a ring handed out, oldest first. Followed by the ring's current chapter, they bind:
+    /// they are numbered from 0, the first opens on the empty ring, each continues the one before, and their entries
+    /// together are the ring's whole history.
     pub fn chapters(&self, r: u32) -> &[Chapter]
         requires ring { r < length self.now.rings }
         ensures chapters { result.now ≡ (ring_at self.now r).chapters }
@@ -144,7 +149,7 @@ impl<'p> World<'p> {
         self.rings[r as usize].chapters.as_slice()
     }
 
-    /// The unit of a worker's next instruction, and none once the worker is finished.
+    /// Returns the unit of a worker's next instruction, or `None` if the worker has finished.
     pub fn at(&self, w: u32) -> Option<u32>
         requires worker { w < length self.now.machines }
         ensures { result ≡ next_unit ((world_of self.now).workers w) }
@@ -156,7 +161,7 @@ impl<'p> World<'p> {
         }
     }
 
-    /// What a worker's program ended with, and none while it runs.
+    /// Returns the result of a worker's program, or `None` if it is still running.
     pub fn result(&self, w: u32) -> Option<u64>
         requires worker { w < length self.now.machines }
         ensures { result ≡ result_of ((world_of self.now).workers w) }
@@ -167,12 +172,12 @@ impl<'p> World<'p> {
         }
     }
 
-    // The allocator that the world was opened with.
+    // Returns the allocator that the world was opened with.
     pub(crate) fn allocator(&self) -> Global {
         self.alloc
     }
 
-    // One take of the consumer of a ring.
+    // Makes one take of a ring's consumer.
     fn turn_consumer(&mut self, r: u32) -> TurnDone
         requires ring { r < length self.old.rings }
         ensures turned { IsTurnOf (Consumer r) self.old result self.new }
@@ -183,7 +188,7 @@ impl<'p> World<'p> {
         self.rings[r as usize].consume()
     }
 
-    // The keeper of a ring hands its chapter out.
+    // Lets a ring's keeper hand out the chapter.
     fn turn_keeper(&mut self, r: u32) -> TurnDone
         requires ring { r < length self.old.rings }
         ensures turned { IsTurnOf (Keeper r) self.old result self.new }
@@ -194,7 +199,7 @@ impl<'p> World<'p> {
         self.rings[r as usize].hand_out(self.alloc)
     }
 
-    // One turn of a worker: its next instruction, and where that is a call its answer.
+    // Runs one turn of a worker: its next instruction, and the answer if that is a helper call.
     fn turn_worker(&mut self, w: u32) -> TurnDone
         requires worker { w < length self.old.machines }
         ensures turned { IsTurnOf (Worker w) self.old result self.new }
@@ -211,9 +216,13 @@ impl<'p> World<'p> {
         )
     }
 
-    /// One turn of an actor. A worker that is not finished executes one instruction, and a call is answered at once by its
-    /// ring; a consumer makes one take; a keeper hands the ring's chapter out, which the world keeps. It takes constant time, but for the
-    /// bytes of a record, the growth of what is kept, and a keeper's turn, which takes the memory of a chapter.
+    /// Runs one turn of an actor.
+    ///
+    /// A worker that has not finished executes one instruction, and its ring answers a helper call at once. A consumer
+    /// makes one take. A keeper hands out the ring's chapter, which the world keeps.
+    ///
+    /// A turn takes constant time, apart from copying a record's bytes and growing the lists. A keeper's turn also
+    /// allocates a chapter.
     pub fn turn(&mut self, actor: Actor) -> TurnDone
         requires there { IsThere self.old actor }
         ensures turned { IsTurnOf actor self.old result self.new }

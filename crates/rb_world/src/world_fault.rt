@@ -1,14 +1,14 @@
-//! Why a world is not opened or not run.
+//! Errors of opening or running a world.
 
 use thiserror::Error;
 
-/// Why a world can't be opened: the first of these that applies, in this order.
+/// Why a world cannot be opened: the first of these that applies, in this order.
 #[derive(Clone, Copy, Debug, Error, PartialEq, Eq)]
 pub enum WorldOpenFault {
-    /// A ring's size is no power of two from 4,096 to 67,108,864, or its start no multiple of 8 up to 2^61.
+    /// A ring's size is not a power of two from 4,096 to 67,108,864, or its start is not a multiple of 8 up to 2^61.
     #[error("a ring's size or start is out of bounds")]
     Ring,
-    /// A worker's context has another length than the one that its program was verified for.
+    /// The length of a worker's context differs from the one that its program was verified for.
     #[error("a context has another length than its program was verified for")]
     ContextLength,
     /// There are more than 16 rings, or fewer than a program was verified for.
@@ -20,18 +20,18 @@ pub enum WorldOpenFault {
     /// The room of a ring's chapters is not 8 to 1,048,576 entries.
     #[error("the room of a chapter is not 8 to 1048576")]
     Chapter,
-    /// A growth was refused: there is no memory for the world.
+    /// The world could not be allocated.
     #[error("out of memory")]
     Memory,
 }
 
-/// Why a world is not run. Nothing changed.
+/// Why a list of actors was not run. Nothing changed.
 #[derive(Clone, Copy, Debug, Error, PartialEq, Eq)]
 pub enum WorldFault {
-    /// The actor at this place of the list, the first of them counted from 0, is not there.
+    /// The actor at this index of the list does not exist. It is the first such actor; the index counts from 0.
     #[error("actor {0} of the list is unknown")]
     UnknownActor(usize),
-    /// A growth was refused: there is no memory for the report.
+    /// The report could not be allocated.
     #[error("out of memory")]
     Memory,
 }

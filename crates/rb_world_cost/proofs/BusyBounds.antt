@@ -1,4 +1,5 @@
--- The busy records of a ring are those that its unfinished workers hold, and take no more bytes than those may hold.
+-- The busy records of a ring are those that its unfinished workers hold, and take at most the bytes that these may
+-- hold.
 use Rattle.std.proofs.Common.{◌≡◌, ◌≢◌, inl, inr, ⊎_elim, ℕ, ◌+◌, ◌<◌, ◌≤◌, refl, sym, ◌∙◌, ap, subst, Bool, true, false, cond, List, [], ◌∷◌, length, get_or, Option, Some, None, arith}
 use Rattle.std.specs.Prelude.{◌==◌}
 use Rattle.std.specs.List.{All, AllByRecursion, sum_by}
@@ -34,14 +35,14 @@ use Rattle.rb_world_cost.specs.WorldCosts.{busy_bytes, held_by_status, may_hold,
 use Rattle.rb_world_cost.proofs.Sums.{sum-none, sum-swap, sum-below, below-contained, below-numbers, one_among, one-at}
 use Rattle.rb_world_cost.proofs.WorkersCome.{HasRun, come, AllRun, all_start, all_run}
 
--- a record that is there, and has this status, is busy by it
+-- a record with this status is busy by the test on statuses
 is_busy : (status : Status) → is_same status Busy ≡ true → status ≡ Busy
 is_busy Busy e = refl
 is_busy Waiting e = absurd (cc)
 is_busy Consumed e = absurd (cc)
 is_busy Discarded e = absurd (cc)
 
--- the record stands where what is held says
+-- a held record is at this position
 abbrev stands_at : Option RecordPlace → ℕ → Bool
 stands_at None p = false
 stands_at (Some place) p = p == place.pos
@@ -49,11 +50,11 @@ stands_at (Some place) p = p == place.pos
 -- ---- one worker's records
 
 module _ (r : ℕ) (held : HeldRecords) where
-  -- what a reference counts for a record at a position
+  -- the bytes that a reference counts for a record at a position
   abbrev share : ℕ → Reference → ℕ
   share p q = cond (stands_at (held q.id) p) (held_span r q) 0
 
-  -- the reference of a record that is held counts its span
+  -- the reference of a held record counts the record's span
   counted : (ring : ℕ → Option ℕ) (id p k : ℕ) (bytes : List ℕ) → held id ≡ Some (record { ring = r; pos = p; serial = k }) → ring id ≡ Some r → (refs : List Reference) (memory : List (ℕ × List ℕ)) → AreHeld refs memory
       → AllByRecursion (λ q. ring q.id ≡ Some q.ring) refs → record_named id memory ≡ Some bytes → span (length bytes) ≤ sum_by (share p) refs
   counted ring id p k bytes is on [] [] h known there = absurd (cc)
@@ -82,7 +83,7 @@ module _ (r : ℕ) (held : HeldRecords) where
         | inr missing ↦ let rest : span (length bytes) ≤ sum_by (share p) refs = counted ring id p k bytes is on refs (x ∷ memory) missing.1 known.1 there in omega arith
       ]
 
-  -- of records in a row a reference counts for one at most
+  -- a reference counts for at most one of consecutive records
   shared_once : (q : Reference) (from : ℕ) (ss : List Shown) (to : ℕ) → InRow from ss to → sum_by (λ s. share s.pos q) ss ≤ held_span r q
   shared_once q from ss to row = by_place (held q.id)
     where
@@ -90,7 +91,7 @@ module _ (r : ℕ) (held : HeldRecords) where
       by_place None = let none : sum_by (λ (s : Shown). 0) ss ≡ 0 = sum-none (λ (s : Shown). 0) ss (λ s. refl) in omega arith
       by_place (Some place) = one-at (held_span r q) place.pos from ss to row
 
-  -- so all that the records count is within what is known to be held
+  -- so what the references count for the records is within what is known to be held
   shared_within : (refs : List Reference) (from : ℕ) (ss : List Shown) (to : ℕ) → InRow from ss to → sum_by (λ s. sum_by (share s.pos) refs) ss ≤ sum_by (held_span r) refs
   shared_within refs from ss to row =
       let swapped : sum_by (λ s. sum_by (share s.pos) refs) ss ≡ sum_by (λ q. sum_by (λ s. share s.pos q) ss) refs = sum-swap (λ (s : Shown) (q : Reference). share s.pos q) ss refs in
@@ -103,7 +104,7 @@ module _ (r : ℕ) (held : HeldRecords) where
 abbrev busy_span : Shown → ℕ
 busy_span s = cond (is_same s.status Busy) (span s.len) 0
 
--- those of one worker
+-- the bytes of one worker's busy record
 abbrev busy_of : ℕ → Shown → ℕ
 busy_of w s = cond (s.worker == w) (busy_span s) 0
 
@@ -124,7 +125,7 @@ module _ (first last : World) (actors : List Actor) (events : List TurnEvent) (c
   row : InRow (consumer_of setup.start h) (records h) (producer_of setup.start h)
   row = (kept-from-legal setup h (well.rings r).legal).in_row
 
-  -- a busy record is held by a worker that runs
+  -- a busy record is held by a running worker
   busy_at : (s : Shown) → Named h h s → is_same s.status Busy ≡ true → IsBusy h s.pos s.worker s.serial s.len
   busy_at s n busy = record { granted_is = n.stands; busy = head-status h s n ∙ is_busy s.status busy }
 
@@ -162,7 +163,7 @@ module _ (first last : World) (actors : List Actor) (events : List TurnEvent) (c
             let second_span = span-of w s.serial (length busy.0) s.pos h (omega arith) busy.2.granted_is in
             omega arith
 
-    -- a worker that runs
+    -- a running worker
     runs_within : (last.workers w).status ≡ Running → sum_by (busy_of w) (records h) ≤ (ring_cost_at (costs w) r).held_bytes
     runs_within runs =
         let stage = runner.came runs in
@@ -174,7 +175,7 @@ module _ (first last : World) (actors : List Actor) (events : List TurnEvent) (c
         let most : sum_by (held_span r) refs ≤ (ring_cost_at (costs w) r).held_bytes = ((exact w lt o.verified.0 o.verified.1).rings r (knows w lt)).held_bytes.most (last.workers w).state.unit come_here.can.begins in
         omega arith
 
-    -- one that does not run any more has no busy record
+    -- a worker that no longer runs has no busy record
     ended_none : (last.workers w).status ≢ Running → sum_by (busy_of w) (records h) ≤ 0
     ended_none not =
         let each : sum_by (busy_of w) (records h) ≤ sum_by (λ (s : Shown). 0) (records h) = sum-below (busy_of w) (λ (s : Shown). 0) (records h) (λ i d inside. none_here (get_or (records h) i d) (named h h i d inside)) in
@@ -202,7 +203,7 @@ module _ (first last : World) (actors : List Actor) (events : List TurnEvent) (c
 
   -- ---- all workers
 
-  -- a busy record is some worker's
+  -- every busy record belongs to some worker
   of_workers : (s : Shown) → Named h h s → busy_span s ≤ sum_by (λ w. busy_of w s) (numbers_below first.worker_count)
   of_workers s n = by_test (is_same s.status Busy) refl
     where

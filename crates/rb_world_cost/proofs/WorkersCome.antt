@@ -1,4 +1,5 @@
--- How far each worker of a world has come: its turns are the moments of a run of its program, and what it holds was reserved on its ring in one of them.
+-- The progress of each worker of a world: its turns are the moments of a run of its program, and each record that it
+-- holds was reserved, on its ring, at one of them.
 use Rattle.std.proofs.Common.{◌≡◌, ◌≢◌, ◌⊎◌, inl, inr, ⊎_elim, ℕ, ◌<◌, refl, sym, ◌∙◌, ap, subst, true, cond, List, [], ◌∷◌, Option, Some, None, arith}
 use Rattle.std.specs.Prelude.{◌==◌}
 use Rattle.std.proofs.lemmas.Bool.{cases_eq, eq-eqb, ne_eqb}
@@ -30,12 +31,12 @@ other_place i j x table ne = ap (λ b. cond b x (table j)) (ne_eqb j i ne)
 
 -- ---- calls
 
--- a record that is newly held is the one that was reserved here
+-- a newly held record is the one that was reserved here
 abbrev IsNew : HelperCall → State → ℕ → RecordPlace → Type 0
 IsNew (Reserve i r len flags) t id place = (id ≡ t.unit) × (place.ring ≡ r)
 IsNew call t id place = ⊥
 
--- a call is answered, and what is held then was held before or is new
+-- a call is answered, and each record held afterwards was held before or is new
 record HoldsAfter (w : ℕ) (call : HelperCall) (t : State) (old : World) (event : TurnEvent) (new : World) : Type 0 where
   answer : HelperAnswer
   on : TurnEvent
@@ -48,7 +49,7 @@ record HoldsAfter (w : ℕ) (call : HelperCall) (t : State) (old : World) (event
 none_some : {X : Type 0} (x : X) → None ≡ Some x → ⊥
 none_some x e = cc
 
--- where a place of what is held was emptied, the others stay
+-- removing one held record leaves the others
 without_place : (id : ℕ) (held : HeldRecords) (other : ℕ) (place : RecordPlace) → table_with id None held other ≡ Some place → held other ≡ Some place
 without_place id held other place e =
     ⊎_elim
@@ -85,23 +86,23 @@ call_holds w (Query r what) t old event new h = record { answer = _; on = _; hel
 
 -- ---- one worker
 
--- a moment that has not led on
+-- a moment that has not been answered yet
 abbrev pub now : State → Moment
 now s = record { state = s; answer = None }
 
 module _ (x0 : WorkerState) where
-  -- the moments of a worker that runs, and on which ring each record that it holds was reserved in them
+  -- the moments of a running worker, and for each record that it holds, the moment that reserved it on its ring
   pub record Stage (x : WorkerState) : Type 0 where
     pub before : List Moment
     pub moments : AreMoments x0.subject.program x0.state (now x.state ∷ before)
     pub rings : (id : ℕ) (place : RecordPlace) → x.held id ≡ Some place → (id < x.state.unit) × (ring_of x0.subject.program before id ≡ Some place.ring)
 
-  -- a worker is of the same program, and has come so far where it runs
+  -- a worker has the same program, and such moments if it is running
   pub record HasRun (x : WorkerState) : Type 0 where
     pub subject_same : x.subject ≡ x0.subject
     pub came : x.status ≡ Running → Stage x
 
-  -- what the last moment is answered is of no account yet
+  -- the answer at the last moment does not matter yet
   with_answer : (s : State) (answer : Option HelperAnswer) (before : List Moment) → AreMoments x0.subject.program x0.state (now s ∷ before) → AreMoments x0.subject.program x0.state (record { state = s; answer = answer } ∷ before)
   with_answer s answer [] h = h
   with_answer s answer (m ∷ before) h = h
@@ -147,7 +148,7 @@ module _ (x0 : WorkerState) where
       abbrev x : WorkerState
       x = old.workers w
 
-      -- a worker that does not run any more
+      -- a worker that no longer runs
       ended : (y : WorkerState) → y.subject ≡ x0.subject → y.status ≢ Running → new.workers w ≡ y → HasRun (new.workers w)
       ended y kept not is = subst HasRun (sym is) (record { subject_same = kept; came = λ runs. absurd (not runs) })
 
@@ -200,7 +201,7 @@ module _ (x0 : WorkerState) where
 
 -- ---- all workers
 
--- a worker whose turn it is not stays as it is
+-- another worker's turn leaves a worker unchanged
 call_stays : (v w : ℕ) (call : HelperCall) (t : State) (old : World) (event : TurnEvent) (new : World) → w ≢ v → MakesCall v call t old event new → new.workers w ≡ old.workers w
 call_stays v w call t old event new ne makes =
     let h = call_holds v call t old event new makes in
@@ -212,7 +213,7 @@ effect_stays v w (Ends n) old event new ne (_, world) = ap (λ (u : World). u.wo
 effect_stays v w (Asks call t) old event new ne makes = call_stays v w call t old event new ne makes
 effect_stays v w Stuck old event new ne (_, world) = ap (λ (u : World). u.workers w) world ∙ other_place v w _ old.workers ne
 
--- a world of as many workers
+-- the number of workers does not change
 effect_count : (v : ℕ) (e : StepEffect) (old : World) (event : TurnEvent) (new : World) → ExecutesStep v e old event new → new.worker_count ≡ old.worker_count
 effect_count v (Goes t) old event new (_, world) = ap (λ (u : World). u.worker_count) world
 effect_count v (Ends n) old event new (_, world) = ap (λ (u : World). u.worker_count) world
@@ -220,7 +221,7 @@ effect_count v (Asks call t) old event new makes = ap (λ (u : World). u.worker_
 effect_count v Stuck old event new (_, world) = ap (λ (u : World). u.worker_count) world
 
 module _ (first : World) (opens : IsOpeningWorld first) where
-  -- each worker has run so far
+  -- each worker has such a run
   pub record AllRun (world : World) : Type 0 where
     pub count : world.worker_count ≡ first.worker_count
     pub each : (w : ℕ) → w < first.worker_count → HasRun (first.workers w) (world.workers w)
@@ -233,7 +234,7 @@ module _ (first : World) (opens : IsOpeningWorld first) where
         record { subject_same = refl; came = λ runs. record { before = []; moments = refl; rings = λ id place e. absurd (none_some place (sym (o.holds_none id) ∙ e)) } };
   }
 
-  -- where no worker changes
+  -- no worker changes
   same_workers : (old new : World) → new.worker_count ≡ old.worker_count → ((w : ℕ) → new.workers w ≡ old.workers w) → AllRun old → AllRun new
   same_workers old new count same h = record { count = count ∙ h.count; each = λ w lt. subst (HasRun (first.workers w)) (sym (same w)) (h.each w lt) }
 

@@ -1,9 +1,12 @@
-//! What the rings of a world hold at most, by what its programs can cost: for hosts that choose the size of a ring. There is no body to run, and the law is a
-//! contract here: in every interleaving of workers, consumers and keepers, the busy records of a ring take no more bytes than its unfinished workers may hold
-//! (`busy_bytes_are_bounded`), and each worker stays within the cost of its program (`workers_stay_within_their_cost`).
+//! Upper bounds on what the rings of a world hold, from the costs of its programs, for hosts that choose the size of a
+//! ring.
 //!
-//! `rb_cost` has what one program can hold, and the law on a ring that refuses no record for want of room; a busy record holds up those behind it, so what
-//! may be busy is part of what a ring must have room for.
+//! In every interleaving of workers, consumers and keepers, the busy records of a ring take no more bytes than its
+//! unfinished workers may hold (`busy_bytes_are_bounded`), and each worker stays within the cost of its program
+//! (`workers_stay_within_their_cost`). Both theorems are contracts; there is no code to run.
+//!
+//! `rb_cost` bounds what one program can hold, and proves when a ring refuses no record for lack of room. A busy record
+//! blocks the records after it, so a ring must have room for everything that may be busy.
 #![tactic(auto)]
 
 mod world_cost_laws;

@@ -1,4 +1,4 @@
--- What a chapter's fields mean, and what they keep.
+-- The meaning of a chapter's fields, and their invariant.
 use Rattle.std.specs.Prelude.{◌≡◌, ◌+◌, ◌*◌, ◌≤◌, List, length, vec_capacity}
 use Rattle.rb_history.specs.declared.entries.Entry.{Entry}
 use Rattle.rb_history.specs.RingModel.{IsWorkerCount}
@@ -11,13 +11,13 @@ use Rattle.rb_chapter_ring.specs.WholeHistory.{IsKept}
 abbrev pub chapter_shown : Inside → Chapter
 chapter_shown a = record { number = a.number; room = a.room; opening = a.opening.opening; entries = a.entries.items }
 
--- the consumer position is a header at least beyond the start for each record that was taken
+-- the consumer position is at least a header's eight bytes for each record that was taken
 abbrev pub IsBehindTakes : Standing → Type 0
 IsBehindTakes o = 8 * (o.consumed + o.skipped) ≤ o.consumer
 
--- it has memory for the entries that it has room for, and for as many records at both ends, of which the taken ones are so few that
--- each more that is granted has a place; the running totals are what it
--- stands for at its end, and what it owes; it continues some history, and has room for what it owes
+-- There is memory for as many entries as the room, and for as many records at both ends; few enough records were taken
+-- that each further grant has a place. The running totals are those of the summary at its end, and of what it owes. It
+-- continues some history, and has room for what it owes.
 pub record ChapterInvariant (a : Inside) : Type 0 where
   pub room : IsChapterRoom a.room
   pub workers : IsWorkerCount a.opening.opening.setup.workers

@@ -1,4 +1,4 @@
--- The ring that keeps a chapter: what it means, and what it keeps from call to call.
+-- The ring that keeps a chapter: the meaning of its fields, and its invariant.
 use Rattle.std.specs.Prelude.{ℕ, ◌≡◌, ◌+◌, ◌-◌, ◌*◌, ◌/◌, ◌%◌, ◌≤◌, ◌^◌, List, [], ◌∷◌, ◌++◌, map, length}
 use Rattle.std.specs.List.{All, slice_index_or as get_or}
 use Rattle.std.specs.Int.{IsPowerOfTwo}
@@ -20,7 +20,7 @@ use Rattle.rb_chapter_ring.specs.declared.chapter_state.ChapterState.TheInside.{
 use Rattle.rb_chapter_ring.specs.OpenedRing.{capped_counts}
 use Rattle.rb_chapter_ring.specs.inner.Ordinals.{taken_before}
 
--- a record with the bytes of its slot
+-- the state of a record with the bytes of its slot
 abbrev pub state_with : Status → List ℕ → RecordState
 state_with Busy bytes = Reserved
 state_with Waiting bytes = Submitted bytes
@@ -29,12 +29,12 @@ state_with _ bytes = DiscardedState
 abbrev pub stored_at : Shown → List ℕ → StoredRecord
 stored_at s bytes = record { pos = s.pos; len = s.len; worker = s.worker; serial = s.serial; state = state_with s.status bytes }
 
--- records from an ordinal on, where the slots go round
+-- the records from an ordinal on, where the slots are a circular buffer
 abbrev pub stored_from : ℕ → List (List ℕ) → ℕ → List Shown → List StoredRecord
 stored_from slots sheets n [] = []
 stored_from slots sheets n (s ∷ ss) = stored_at s (get_or sheets (n % slots) []) ∷ stored_from slots sheets (n + 1) ss
 
--- the records that an opening has
+-- the records of an opening
 abbrev pub stored_in : Standing → List (List ℕ) → List StoredRecord
 stored_in o sheets = stored_from (length sheets) sheets (taken_before o) o.records
 
@@ -42,7 +42,7 @@ stored_in o sheets = stored_from (length sheets) sheets (taken_before o) o.recor
 abbrev pub stored_of : Chapter → List (List ℕ) → List StoredRecord
 stored_of c sheets = stored_in (closing_of c) sheets
 
--- the ring that the chapter and the records are
+-- the ring that the chapter and the records form
 abbrev pub ring_of : Chapter → List StoredRecord → ChapterRing
 ring_of c stored = record {
   chapter = c;
@@ -55,7 +55,7 @@ ring_of c stored = record {
 abbrev pub chapter_ring_shown : Inside → ChapterRing
 chapter_ring_shown a = ring_of a.chapter (stored_of a.chapter a.sheets.items)
 
--- what holds of the records, by what the chapter stands for at its end
+-- facts about the records, by the summary at the chapter's end
 pub record IsStored (size : ℕ) (o : Standing) (stored : List StoredRecord) : Type 0 where
   pub limit : o.producer ≤ 2 ^ 62
   pub space : o.producer ≤ o.consumer + (size - 1)
@@ -63,7 +63,7 @@ pub record IsStored (size : ℕ) (o : Standing) (stored : List StoredRecord) : T
   pub shown : map shown_record stored ≡ o.records
   pub behind : 8 * taken_before o ≤ o.consumer
 
--- the parts are a ring's, where `earlier` has the entries of the chapters that were handed out
+-- the parts form a ring, where `earlier` has the entries of the chapters that were handed out
 pub record IsRingOf (earlier : List Entry) (c : Chapter) (stored : List StoredRecord) (counts : Counts) : Type 0 where
   pub kept : IsKept earlier c
   pub size : IsRingSize c.opening.setup.size
@@ -75,7 +75,8 @@ pub record IsRingOf (earlier : List Entry) (c : Chapter) (stored : List StoredRe
   pub counted : counts ≡ capped_counts (counts_of (earlier ++ c.entries))
   pub granted : counts.made ≡ taken_before (closing_of c) + length stored
 
--- two of the six counts are kept, and there is a slot for each of as many records as the ring and the chapter have room for
+-- two of the six counts are stored, and there is a slot for each of as many records as the ring and the chapter have
+-- room for
 pub record ChapterRingInvariant (a : Inside) : Type 0 where
   pub earlier : List Entry
   pub counts : Counts

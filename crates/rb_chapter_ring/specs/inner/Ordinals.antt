@@ -1,4 +1,4 @@
--- A record's ordinal: how many records its ring had granted before it.
+-- A record's ordinal: the number of records that its ring had granted before it.
 use Rattle.std.specs.Prelude.{ℕ, ◌≡◌, ◌+◌, ◌<◌, ◌≤◌, List, [], Some, length}
 use Rattle.std.specs.List.{slice_index_or as get_or}
 use Rattle.rb_chapter_ring.specs.Standing.{Standing, record_in}
@@ -7,18 +7,18 @@ use Rattle.rb_chapter_ring.specs.declared.out_record.OutRecord.{OutRecord}
 use Rattle.rb_chapter_ring.specs.Hands.{hand_at}
 use Rattle.rb_chapter_ring.specs.HandRing.{HandRing, HasHands}
 
--- how many records were taken: the ordinal of the one at the front
+-- the number of records that were taken, which is the ordinal of the record at the front
 abbrev pub taken_before : Standing → ℕ
 taken_before o = o.consumed + o.skipped
 
--- the record at this position is there, and has this ordinal
+-- the record at this position was not taken, and has this ordinal
 pub record HasOrdinal (o : Standing) (p n : ℕ) : Type 0 where
   pub index : ℕ
   pub within : index < length o.records
   pub here : (record_in o index).pos ≡ p
   pub ordinal : n ≡ taken_before o + index
 
--- a record that was granted before has the ordinal that it had
+-- a record that was granted before keeps its ordinal
 pub record KeepsOrdinals (old new : Standing) : Type 0 where
   pub grown : old.producer ≤ new.producer
   pub numbers : (p n : ℕ) → HasOrdinal new p n → p < old.producer → HasOrdinal old p n
@@ -26,17 +26,17 @@ pub record KeepsOrdinals (old new : Standing) : Type 0 where
 abbrev pub KeepsNumbers : Chapter → Chapter → Type 0
 KeepsNumbers old new = KeepsOrdinals (closing_of old) (closing_of new)
 
--- the ordinal that stands for a worker's hand
+-- the ordinal that is stored for a worker's hand
 abbrev pub ordinal_at : List (List ℕ) → ℕ → ℕ → ℕ
 ordinal_at ordinals w h = get_or (get_or ordinals w []) h 0
 
--- there are four for each worker, and those of hands that are out are their records'
+-- there are four for each worker, and those of occupied hands are the ordinals of their records
 pub record HasOrdinals (v : HandRing) (ordinals : List (List ℕ)) : Type 0 where
   pub workers : length ordinals ≡ v.ring.chapter.opening.setup.workers
   pub four : (w : ℕ) → w < length ordinals → length (get_or ordinals w []) ≡ 4
   pub numbered : (w h : ℕ) (o : OutRecord) → hand_at v.hands w h ≡ Some o → HasOrdinal (closing_of v.ring.chapter) o.pos (ordinal_at ordinals w h)
 
--- what a ring with hands keeps: its book is that of its busy records, and beside it stand their ordinals
+-- the invariant of a ring with hands: its book is that of its busy records, and their ordinals are stored beside it
 pub record IsHandState (v : HandRing) (ordinals : List (List ℕ)) : Type 0 where
   pub has : HasHands v
   pub counted : HasOrdinals v ordinals

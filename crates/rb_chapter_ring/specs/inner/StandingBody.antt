@@ -1,4 +1,4 @@
--- What an opening's fields mean, and what they keep.
+-- The meaning of an opening's fields, and their invariant.
 use Rattle.std.specs.Prelude.{◌≡◌, ◌≤◌, map, drop, length, vec_len, vec_capacity}
 use Rattle.rb_chapter_ring.specs.declared.standing.Standing.TheInside.{Inside}
 use Rattle.rb_chapter_ring.specs.UntakenRecords.{untaken_shown}
@@ -19,7 +19,7 @@ opening_shown a = record {
 abbrev pub opening_value : Inside → StandingValue
 opening_value a = record { opening = opening_shown a; room = vec_capacity a.records; passed = a.first }
 
--- it has the totals of each worker, and the first of its records is one of them or stands behind them all
+-- there are totals for each worker, and the index of the first untaken record is at most the length of the list
 pub record OpeningInvariant (a : Inside) : Type 0 where
   pub workers : length a.tallies.items ≡ a.numbers.workers
   pub first : a.first ≤ vec_len a.records

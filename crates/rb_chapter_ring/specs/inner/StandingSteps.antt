@@ -1,4 +1,4 @@
--- What one entry more changes of what a chapter stands for at its end.
+-- What one more entry changes in the summary at a chapter's end.
 use Rattle.std.specs.Prelude.{ℕ, ◌+◌, [], ◌∷◌, ◌++◌, drop}
 use Rattle.std.specs.List.{slice_set as set}
 use Rattle.rb_history.specs.Span.{span}
@@ -9,11 +9,11 @@ use Rattle.rb_chapter_ring.specs.Standing.{Standing, tally_at, record_in}
 use Rattle.rb_chapter_ring.specs.declared.record_end.RecordEnd.{RecordEnd}
 use Rattle.rb_chapter_ring.specs.RecordEnds.{status_of_end, tally_with_end}
 
--- the worker has these totals now
+-- the worker has these totals
 abbrev pub with_tally : ℕ → Tally → Standing → Standing
 with_tally w t o = record o { tallies = set o.tallies w t }
 
--- the worker found no room
+-- the worker was refused for lack of room
 abbrev pub with_refusal : ℕ → Standing → Standing
 with_refusal w o = with_tally w (record (tally_at o w) { refused = (tally_at o w).refused + 1 }) o
 
@@ -30,11 +30,11 @@ with_grant w n o =
 abbrev pub with_status : ℕ → Status → Standing → Standing
 with_status i st o = record o { records = set o.records i (record (record_in o i) { status = st }) }
 
--- the record at an index came to this end
+-- the record at an index was committed in this way
 abbrev pub with_end : RecordEnd → ℕ → Standing → Standing
 with_end end i o = with_tally (record_in o i).worker (tally_with_end end (tally_at o (record_in o i).worker)) (with_status i (status_of_end end) o)
 
--- one where the record was handed out, and one where it was passed over
+-- 1 if the record was returned; and 1 if it was skipped
 abbrev pub events_by : Status → ℕ
 events_by Waiting = 1
 events_by _ = 0

@@ -1,4 +1,4 @@
-//! Handing the chapter out.
+//! Handing out the chapter.
 
 ghost use Rattle.std.specs.Prelude.{◌≡◌, ◌↔◌, IsTrue, IsOk, IfOk, IfErr, OnErr};
 ghost use Rattle.rb_chapter_ring.specs.ChapterCalls.{HandsOut};
@@ -11,9 +11,11 @@ use crate::setup::is_fit;
 use std::mem;
 
 impl ChapterState {
-    /// Hands the chapter out as it is, and goes on in `empty`, which becomes the next one: it begins with what the old one stands for.
-    /// Hands `empty` back where it has entries, another room or other workers, or where the old one's number is 2^62. In time linear in
-    /// the records that were not taken and the workers, and without memory.
+    /// Hands out the chapter as it is. The ring continues in `empty`, which becomes the next chapter; its opening is
+    /// the summary of the old one at its end.
+    ///
+    /// Returns `empty` if it has entries, or another room or number of workers, or if the old chapter's number is 2^62.
+    /// Takes time linear in the numbers of untaken records and of workers, and does not allocate.
     pub(crate) fn hand_out(&mut self, empty: Chapter) -> Result<Chapter, Chapter>
         ensures handed_out { IfOk result (λ out. HandsOut self.old self.new out) }
         ensures fit { IsOk result ↔ MayGoOnIn self.old empty }
@@ -29,7 +31,7 @@ impl ChapterState {
         Ok(mem::replace(&mut self.chapter, next))
     }
 
-    // Whether the ring may go on in the chapter.
+    // Returns whether the ring may continue in the chapter.
     fn may_go_on_in(&self, empty: &Chapter) -> bool
         ensures exact { IsTrue result ↔ MayGoOnIn self.now empty.now }
     {

@@ -1,4 +1,4 @@
-//! The numbers of what a chapter begins with.
+//! The numbers of an opening.
 
 ghost use Rattle.std.specs.Prelude.{◌≡◌, ◌+◌, ◌<◌, ◌^◌, ◌↔◌, IsTrue};
 ghost use Rattle.rb_chapter_ring.specs.UntakenRecords.{status_shown};
@@ -7,27 +7,27 @@ ghost use Rattle.rb_chapter_ring.specs.inner.StandingSteps.{events_by, skips_by}
 
 use crate::{Standing, UntakenStatus};
 
-/// The numbers of what a ring's history stands for: those of the ring, both positions, and the totals of takes.
+/// The numbers of an opening: the parameters of the ring, both positions, and the totals of takes.
 #[derive(Clone, Copy, PartialEq, Eq)]
 pub struct StandingNumbers {
-    /// The ring's size in bytes; 0 where no ring keeps the chapter.
+    /// The ring's size in bytes; 0 if the chapter belongs to no ring.
     pub size: u64,
     /// The ring's first position, in bytes.
     pub start: u64,
-    /// How many workers the ring has.
+    /// The number of workers of the ring.
     pub workers: u32,
     /// The position of the next record that is granted, in bytes.
     pub producer: u64,
     /// The position of the next record that is taken, in bytes.
     pub consumer: u64,
-    /// How many submitted records were taken.
+    /// The number of submitted records that were taken.
     pub consumed: u64,
-    /// How many discarded records were passed over.
+    /// The number of discarded records that were skipped.
     pub skipped: u64,
 }
 
 impl StandingNumbers {
-    /// Those of a ring where nothing was done.
+    /// Returns the numbers of a new ring.
     pub(crate) fn of_ring(size: u64, start: u64, workers: u32) -> StandingNumbers
         ensures first { result ≡ first_numbers size start workers }
     {
@@ -43,7 +43,7 @@ impl StandingNumbers {
     }
 
     #[inline(always)]
-    /// Counts a record that was taken, by what had become of it.
+    /// Counts a record that was taken, by its status.
     pub(crate) fn count_take(&mut self, status: UntakenStatus)
         requires totals { self.old.consumed + self.old.skipped < 2 ^ 62 }
         ensures counted { self.new ≡ record self.old { consumed = self.old.consumed + events_by (status_shown status); skipped = self.old.skipped + skips_by (status_shown status) } }
@@ -55,7 +55,7 @@ impl StandingNumbers {
         }
     }
 
-    /// Whether each number is the same.
+    /// Returns whether all numbers are equal.
     pub(crate) fn is_same(&self, other: &StandingNumbers) -> bool
         ensures exact { IsTrue result ↔ (self.now ≡ other.now) }
     {
@@ -65,7 +65,7 @@ impl StandingNumbers {
 
 impl Standing {
     #[inline(always)]
-    /// Its numbers, of which the totals are those before the chapter. In constant time.
+    /// Returns the numbers, of which the totals are those before the chapter. Takes constant time.
     pub fn numbers(&self) -> StandingNumbers
         ensures size { result.size ≡ self.now.opening.setup.size }
         ensures start { result.start ≡ self.now.opening.setup.start }

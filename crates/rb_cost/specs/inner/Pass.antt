@@ -1,4 +1,4 @@
--- The pass over a program in unit order: the most that paths come to before each unit.
+-- The pass over a program in unit order: the maximum over the paths that lead to each unit.
 use Rattle.std.specs.Prelude.{◌≡◌, ℕ, ◌*◌, ◌<◌, ◌≤◌, ◌⊎◌, ◌^◌, List, ◌∷◌, length, slice_index, count_by, sum_by, Option, Some, IfSome, if◌then◌else◌}
 use Rattle.rb_insn.specs.declared.insn.Insn.{Insn}
 use Rattle.rb_program.specs.Program.{unit_count, slot_at}
@@ -13,7 +13,7 @@ use Rattle.rb_cost.specs.declared.counted.Counted.TheVariants.{Steps, Calls, Rec
 use Rattle.rb_cost.specs.Paths.{IsPath}
 use Rattle.rb_cost.specs.Asking.{asked_in, is_on, bytes_on, is_of_ring, held_span}
 
--- what a unit of a path counts
+-- the contribution of a unit of a path
 abbrev pub weight_in : Counted → Option Insn → AbsState → ℕ
 weight_in Steps slot s = 1
 weight_in Calls slot s = if calls slot then 1 else 0
@@ -27,18 +27,18 @@ weight_at counted program a unit = weight_in counted (slot_at program unit) (a u
 abbrev pub IsSmall : Option Asked → Type 0
 IsSmall asked = IfSome asked (λ record_asked. record_asked.len ≤ 2 ^ 26)
 
--- the sum of a path
+-- the sum along a path
 abbrev pub total : (ℕ → ℕ) → List ℕ → ℕ
 total weight path = sum_by weight path
 
--- a number became the most so far at one unit, where there is one and it was less there
+-- the maximum at one unit was raised to a number, if there is such a unit and its maximum was lower
 pub record Raises (target : Option ℕ) (n : ℕ) (old new : List ℕ) : Type 0 where
   pub count : length new ≡ length old
   pub kept : (unit : ℕ) → slice_index old unit ≤ slice_index new unit
   pub raised : (unit : ℕ) → target ≡ Some unit → n ≤ slice_index new unit
   pub exact : (unit : ℕ) → (slice_index new unit ≡ slice_index old unit) ⊎ ((target ≡ Some unit) × (slice_index new unit ≡ n))
 
--- a path to an earlier unit comes to this number, and an edge leads from its last unit
+-- a path to an earlier unit has this sum, and an edge leads on from its last unit
 pub record ArrivesWith (program : List Insn) (weight : ℕ → ℕ) (to n : ℕ) : Type 0 where
   pub from : ℕ
   pub along : Edge
@@ -47,13 +47,14 @@ pub record ArrivesWith (program : List Insn) (weight : ℕ → ℕ) (to n : ℕ)
   pub is_path : IsPath program (from ∷ path)
   pub comes_to : total weight (from ∷ path) ≡ n
 
--- some path comes to this number
+-- some path has this sum
 pub record SomePath (program : List Insn) (weight : ℕ → ℕ) (n : ℕ) : Type 0 where
   pub path : List ℕ
   pub is_path : IsPath program path
   pub comes_to : total weight path ≡ n
 
--- before each unit stands the most of the paths to the units so far with an edge to it, and the most of all paths to the units so far is known
+-- each unit has the maximum over the paths to the units so far with an edge to it, and the maximum over all paths to
+-- the units so far is known
 pub record Progress (program : List Insn) (weight : ℕ → ℕ) (before : List ℕ) (most unit : ℕ) : Type 0 where
   pub count : length before ≡ unit_count program
   pub above : (from to : ℕ) (along : Edge) (path : List ℕ) → from < unit → HasEdge program from along to → IsPath program (from ∷ path) → total weight (from ∷ path) ≤ slice_index before to
@@ -62,12 +63,13 @@ pub record Progress (program : List Insn) (weight : ℕ → ℕ) (before : List 
   pub passed : (last : ℕ) (path : List ℕ) → last < unit → IsPath program (last ∷ path) → total weight (last ∷ path) ≤ most
   pub found : (most ≡ 0) ⊎ SomePath program weight most
 
--- the number is the most of something at the units so far at which instructions begin
+-- the number is the maximum over the units so far at which instructions begin
 pub record IsMostBefore (program : List Insn) (f : ℕ → ℕ) (most unit : ℕ) : Type 0 where
   pub passed : (other : ℕ) → other < unit → IsInstructionStart program other → f other ≤ most
   pub found : (most ≡ 0) ⊎ ((other : ℕ) × IsInstructionStart program other × (f other ≡ most))
 
--- how many records of a ring are held before the instruction at a unit, and how many bytes they take
+-- the number of records of a ring that are held before the instruction at a unit, and the number of bytes that they
+-- occupy
 abbrev pub records_held : List AbsState → ℕ → ℕ → ℕ
 records_held states ring unit = count_by (is_of_ring ring) (state_at states unit).held
 

@@ -1,4 +1,4 @@
--- The forms of instructions, by how their assembly is written: an operation, a move, a load, a store, a jump.
+-- The forms of instructions by the way their assembly is written: an operation, a move, a load, a store, a jump.
 use Rattle.rb_insn.specs.declared.insn.Insn.{Insn}
 use Rattle.rb_insn.specs.declared.insn.Insn.TheVariants.{Binary, Division, Negate, Move, MoveExtended32, MoveExtended64, Reorder, Jump, JumpFar, Branch, LoadNumber, LoadRing, Load, LoadSigned, StoreImmediate, StoreRegister}
 

@@ -1,4 +1,4 @@
--- The ring whose records are a plain list: what it means, and what it keeps from call to call.
+-- The ring whose records are a plain list: its meaning, and its invariant between calls.
 use Rattle.std.specs.Prelude.{◌≡◌, ◌+◌, ◌-◌, ◌≤◌, ◌^◌, map, vec_len, vec_capacity}
 use Rattle.std.specs.List.{sum_by, All}
 use Rattle.rb_for_tests.specs.declared.plain_ring.PlainRing.TheInside.{Inside}

@@ -1,4 +1,4 @@
--- What a ring's body keeps of its records from call to call, free of how they are stored.
+-- What an implementation preserves about its records from call to call, independent of how they are stored.
 use Rattle.std.specs.Prelude.{ℕ, ◌≡◌, ◌+◌, ◌<◌, ◌||◌, true, List, [], ◌∷◌, length}
 use Rattle.std.specs.List.{count_by, All, slice_index_or as get_or}
 use Rattle.rb_history.specs.declared.entries.Entry.{Entry}
@@ -10,7 +10,7 @@ use Rattle.rb_history.specs.Counting.{is_discard_entry, status_count}
 use Rattle.rb_history.specs.RoomRule.{Setup}
 use Rattle.rb_history.specs.Legal.{IsLegal}
 
--- the records follow one another without a gap, from the one position to the other
+-- the records follow one another without a gap, from one position to the other
 abbrev pub InRow : ℕ → List Shown → ℕ → Type 0
 InRow from [] to = from ≡ to
 InRow from (s ∷ ss) to = (s.pos ≡ from) × InRow (from + span s.len) ss to
@@ -23,7 +23,7 @@ NamesBelow p (Sub q) = q < p
 NamesBelow p (Dis q) = q < p
 NamesBelow p (Take q) = q < p
 
--- what holds of a legal history, of the records that it shows, and of its two positions
+-- facts about a legal history, the records that it shows, and its two positions
 pub record HistoryFacts (r : Setup) (h : List Entry) (ss : List Shown) (p c : ℕ) : Type 0 where
   pub legal : IsLegal r h
   pub shown : ss ≡ records h

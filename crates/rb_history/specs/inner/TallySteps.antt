@@ -1,4 +1,4 @@
--- A worker's numbers, entry after entry.
+-- A worker's counts, entry by entry.
 use Rattle.std.specs.Prelude.{ℕ, ◌+◌, ◌<◌, ◌≤◌, ◌^◌, cond, List}
 use Rattle.std.specs.List.{count_by}
 use Rattle.rb_history.specs.declared.entries.Entry.{Entry}
@@ -6,7 +6,7 @@ use Rattle.rb_history.specs.History.{is_grant_of, is_grant_at}
 use Rattle.rb_history.specs.declared.tally.Tally.{Tally}
 use Rattle.rb_history.specs.WorkerCounts.{is_refusal_of, is_submit_of, is_discard_of}
 
--- the four numbers, each with one more where the entry is of its kind, and h has what stands before it
+-- the four counts after the entry, where h is the history before it: the count of the entry's kind grows by one
 abbrev pub tally_with_entry : ℕ → List Entry → Entry → Tally → Tally
 tally_with_entry w h e t = record {
   made = t.made + cond (is_grant_of w e) 1 0;
@@ -15,7 +15,7 @@ tally_with_entry w h e t = record {
   discarded = t.discarded + cond (is_discard_of w h e) 1 0;
 }
 
--- each number fits 64 bits
+-- each count fits in 64 bits
 pub record IsCountable (t : Tally) : Type 0 where
   pub made_fits : t.made < 2 ^ 64
   pub refused_fits : t.refused < 2 ^ 64

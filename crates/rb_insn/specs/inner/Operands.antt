@@ -1,4 +1,4 @@
--- What the second operand asks of an instruction's first unit.
+-- The fields of an instruction's first unit that encode the second operand.
 use Rattle.std.specs.Prelude.{ℕ}
 use Rattle.rb_insn.specs.declared.insn.Operand.{Operand}
 use Rattle.rb_insn.specs.declared.insn.Operand.TheVariants.{Immediate, Register}

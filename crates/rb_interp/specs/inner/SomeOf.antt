@@ -1,4 +1,4 @@
--- How an option lends what it holds.
+-- How an option lends (mutably borrows) its content.
 use Rattle.std.specs.Prelude.{Option, Some}
 use Rattle.std.specs.Borrow.{MutBor, Fml, RattleType, Lends}
 use Rattle.std.specs.contracts.option.Option.{the_row as option}

@@ -1,4 +1,5 @@
--- What the calls on a shared ring do and answer by its chapter. What is promised of them is said over the whole history.
+-- What the calls on a shared ring do and return, in terms of its chapter. Their contracts are stated over the whole
+-- history.
 use Rattle.std.specs.Prelude.{◌≡◌, ◌↔◌, ℕ}
 use Rattle.rb_history.specs.declared.answers.Notice.{Notice}
 use Rattle.rb_history.specs.declared.answers.Notice.TheVariants.{Due}

@@ -8,7 +8,7 @@ use Rattle.rb_ledger.specs.RoleKnowledge.{RoleKnowledge, PassView, role_knowledg
 
 -- ---- the lock is opened
 
--- what a lock has out before it is opened: what nobody knows fits it
+-- the state that a pass holds before the lock is opened; no role's knowledge fits it
 abbrev pub unopened_ring : Ring
 unopened_ring = fresh 0 0 0
 
@@ -17,7 +17,7 @@ abbrev pub worker_roles : Book → ℕ → ℕ → List RoleKnowledge
 worker_roles seen first zero = []
 worker_roles seen first (suc n) = role_knowledge (Worker first) seen empty ∷ worker_roles seen (first + 1) n
 
--- the first state is put in, and all roles are there
+-- the first state is put in, and the pass has all roles
 abbrev pub OpensState : PassView → Ring → PassView → Type 0
 OpensState v r w = w ≡ pass_view (role_knowledge Consumer (book_of r) empty ∷ worker_roles (book_of r) 0 r.setup.workers) None
 

@@ -24,6 +24,6 @@ seen_in v = first_seen v.knows
 abbrev pub pass_bytes : PassView → Contents
 pass_bytes v = first_bytes v.knows
 
--- the pass has this one role, and the state is not out with it
+-- the pass has this one role, and does not hold the state
 abbrev pub IsIdle : Role → PassView → Type 0
 IsIdle role v = v ≡ pass_view (role_knowledge role (seen_in v) (pass_bytes v) ∷ []) None

@@ -1,4 +1,4 @@
--- How a few bytes in place are lent.
+-- How a few bytes inside a value are lent.
 use Rattle.std.specs.Prelude.{ℕ, List}
 use Rattle.std.specs.Borrow.{MutBor, Fml, Lends, Array, u8}
 use Rattle.rb_lend.specs.Ranges.{in_place_of, written_at}

@@ -1,4 +1,4 @@
--- What the decoder checks of an operation's fields, and the instruction that it makes of them.
+-- The decoder's checks on the fields of an operation, and the instruction that it builds from them.
 use Rattle.std.specs.Prelude.{ℕ, ◌+◌, ◌*◌, ◌^◌, Bool, true, false, ◌==◌, ◌&&◌, nat_le, [], ◌∷◌, min, if◌then◌else◌}
 use Rattle.std.specs.Int.{w16, w32, cast_signed}
 use Rattle.std.proofs.Math.Nat.{min-le_right}
@@ -22,14 +22,14 @@ use Rattle.rb_program.specs.declared.opcode_meaning.OpcodeMeaning.TheVariants.{B
 use Rattle.rb_program.specs.OpcodeTable as rows
 use Rattle.rb_program.specs.OpcodeTable.{Allowed, register, any, only, named, Row, one_of}
 
--- the numbers that name a row beside its opcode
+-- the numbers that select a row besides the opcode
 abbrev pub is_named_by : OpcodeMeaning → Fields → Bool
 is_named_by (Reorder order) fields = one_of (16 ∷ 32 ∷ 64 ∷ []) fields.imm
 is_named_by Call fields = one_of (0 ∷ []) fields.src
 is_named_by Wide fields = one_of (0 ∷ 5 ∷ []) fields.src
 is_named_by op fields = true
 
--- the row of an operation, where the source field names one
+-- the row of an operation; the source field selects it if the opcode does not
 abbrev pub row_for : OpcodeMeaning → ℕ → Row
 row_for (Binary width op Immediate) src = rows.binary_k_row
 row_for (Binary width op Register) src = rows.binary_x_row
@@ -73,7 +73,7 @@ numbers_fit row fields =
 
 -- ---- the instruction
 
--- the register of a number up to 10
+-- the register with a number up to 10
 unfoldable pub reg_at : ℕ → Reg
 reg_at n = record { number = min n 10; bounded = min-le_right n 10 }
 

@@ -86,7 +86,7 @@ unary_at code Register W64 =
     if code == 11 then Some (Move W64 Register)
     else None
 
--- the first of two answers that there is
+-- the first of two values that is present
 abbrev first_present_operation : {A : Type 0} → Option A → Option A → Option A
 first_present_operation (Some a) b = Some a
 first_present_operation None b = b

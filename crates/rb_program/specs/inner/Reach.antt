@@ -1,4 +1,4 @@
--- The search for the units that a path reaches.
+-- The search for the units that are reachable.
 use Rattle.std.specs.Prelude.{◌≡◌, ◌+◌, ◌*◌, ◌<◌, ◌≤◌, ◌⊎◌, ℕ, Bool, true, false, Option, Some, List, [], ◌∷◌, length, slice_index_or}
 use Rattle.std.specs.List.{Contains}
 use Rattle.rb_insn.specs.declared.insn.Insn.{Insn}
@@ -15,13 +15,13 @@ unmarked [] = 0
 unmarked (true ∷ marks) = unmarked marks
 unmarked (false ∷ marks) = unmarked marks + 1
 
--- just the units that a path reaches are marked
+-- exactly the reachable units are marked
 pub record MarksReached (program : List Insn) (marks : List Bool) : Type 0 where
   pub count : length marks ≡ unit_count program
   pub only : (unit : ℕ) → IsMarked marks unit → IsReached program unit
   pub each : (unit : ℕ) → unit < unit_count program → IsReached program unit → IsMarked marks unit
 
--- one more unit is marked and waits to be looked at, where there is one
+-- the target, if there is one, is marked, and queued if it was not marked before
 pub record Marks (target : Option ℕ) (marks : List Bool) (waiting : List ℕ) (marks' : List Bool) (waiting' : List ℕ) : Type 0 where
   pub count : length marks' ≡ length marks
   pub keeps : (unit : ℕ) → IsMarked marks unit → IsMarked marks' unit
@@ -36,7 +36,7 @@ pub record Marks (target : Option ℕ) (marks : List Bool) (waiting : List ℕ) 
 abbrev pub TargetsMarked : List Insn → List Bool → ℕ → Type 0
 TargetsMarked program marks unit = (along : Edge) (to : ℕ) → HasEdge program unit along to → to < unit_count program → IsMarked marks to
 
--- what is marked is reached, and what is marked and does not wait has the targets of its edges marked
+-- every marked unit is reachable, and every marked unit that is not queued has the targets of its edges marked
 pub record Search (program : List Insn) (marks : List Bool) (waiting : List ℕ) : Type 0 where
   pub count : length marks ≡ unit_count program
   pub start : 0 < unit_count program → IsMarked marks 0

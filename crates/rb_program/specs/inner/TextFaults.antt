@@ -1,4 +1,4 @@
--- What each fault of a text says of its digits.
+-- The condition on a text's digits for each fault of a text.
 use Rattle.std.specs.Prelude.{ℕ, List}
 use Rattle.rb_program.specs.declared.fault.TextFault.{TextFault}
 use Rattle.rb_program.specs.declared.fault.TextFault.TheVariants.{NotHex, Memory, Decode}

@@ -1,9 +1,9 @@
--- The second units of wide instructions, as a program keeps them.
+-- The second units of wide instructions, as a program stores them.
 use Rattle.std.specs.Prelude.{ℕ, Bool, ◌==◌, slice_index_or, List, ◌∷◌}
 use Rattle.rb_insn.specs.declared.insn.Insn.{Insn}
 use Rattle.rb_insn.specs.declared.insn.Insn.TheVariants.{Exit}
 use Rattle.rb_insn.specs.Units.{units_taken}
 
--- whether a wide instruction is kept in front of a unit
+-- whether the instruction stored before `unit` is wide
 abbrev pub is_behind_wide : List Insn → ℕ → Bool
 is_behind_wide units unit = units_taken (slice_index_or (Exit ∷ units) unit Exit) == 2

@@ -1,4 +1,4 @@
--- The line of a turn, by what is seen of the world behind it.
+-- The line of a turn, from what is visible in the world after it.
 use Rattle.std.specs.Prelude.{ℕ, List, [], ◌∷◌}
 use Rattle.rb_history.specs.declared.answers.Taken.{Taken}
 use Rattle.rb_history.specs.declared.answers.Taken.TheVariants.{BusyFront, Empty}
@@ -9,7 +9,7 @@ use Rattle.rb_world.specs.declared.turn_done.TurnDone.{TurnDone}
 use Rattle.rb_world.specs.declared.turn_done.TurnDone.TheVariants as turn
 use Rattle.rb_script.specs.OutputLines.{take_line, chapter_line}
 
--- the line of the last that was taken
+-- the line of the last record taken
 abbrev pub last_line : ℕ → List Taken → List ℕ
 last_line r [] = []
 last_line r (found ∷ []) = take_line r found

@@ -1,8 +1,8 @@
--- The ids under which a state holds records.
+-- The ids of the records that a state holds.
 use Rattle.std.specs.Prelude.{ℕ, ◌<◌, List, [], ◌∷◌}
 use Rattle.std.specs.List.{AllByRecursion}
 
--- the ids of the records ascend, so no record is named twice
+-- the ids of the records are strictly ascending
 abbrev pub IdsAscend : List (ℕ × List ℕ) → Type 0
 IdsAscend [] = Unit {0}
 IdsAscend (r ∷ records) = AllByRecursion (λ later. r.0 < later.0) records × IdsAscend records

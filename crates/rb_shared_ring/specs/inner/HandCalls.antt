@@ -20,6 +20,6 @@ ReservesToHand w hand n (Err e) old new = RefusesInChapter old.ring new.ring w n
 abbrev pub EndsOut : RecordEnd → HandGranted → ℕ → Notice → HandRing → HandRing → Type 0
 EndsOut end r flags notice old new = EndsFromHand end r.hand r.granted old new × ((notice ≡ Due) ↔ IsDue (consumer_by_chapter old.ring) r.granted.pos flags)
 
--- a call of the ring that leaves all hands
+-- a call of the ring that leaves all hands unchanged
 abbrev pub LeavesHands : (ChapterRing → ChapterRing → Type 0) → HandRing → HandRing → Type 0
 LeavesHands Call old new = Call old.ring new.ring × (new.hands ≡ old.hands)

@@ -7,23 +7,23 @@ use Rattle.rb_chapter_ring.specs.HandRing.{HandRing, HasHands}
 use Rattle.rb_ledger.specs.HandKnowledge.{HandPassView}
 use Rattle.rb_ledger.specs.HandLockSteps.{TakesHandState, MayPutHands, PutsHandState}
 
--- what the ring of one thread tells of its state
+-- the invariants of the ring of one thread
 pub record IsKeptRing (v : ChapterRing) : Type 0 where
   pub legal : IsLegalChapter v.chapter
   pub room : HasRoomForOwed v.chapter
   pub stands : StandsForChapter v
   pub bounded : IsChapterRingWithin v
 
--- and of its hands
+-- the same, with its hands
 pub record IsKeptHandRing (v : HandRing) : Type 0 where
   pub kept : IsKeptRing v.ring
   pub hands : HasHands v
 
--- whatever state the pass, which is `before`, takes out, meets what the call requires of it
+-- any state that the pass, as it is before the call, takes out meets the call's precondition
 abbrev pub MayLend : HandPassView → (HandRing → Type 0) → Type 0
 MayLend before Requires = (out : HandPassView) (old : HandRing) → TakesHandState before old out → Requires old
 
--- a call that leads from the ring `old` to the ring `new` may be made by a pass that is `before`: it may put back what the call left
+-- a pass in the state `before` may make this call: it may put back what the call left
 abbrev pub MayCall : HandPassView → (HandRing → HandRing → Type 0) → Type 0
 MayCall before Call = (out : HandPassView) (old new : HandRing) → TakesHandState before old out → Call old new → IsKeptHandRing new → MayPutHands out new
 

@@ -7,7 +7,7 @@ use Rattle.rb_source.specs.declared.front.ContextPlace.{ContextPlace}
 use Rattle.rb_source.specs.Framing.{Portion, IsPortion, IsPartial, BeginsWithEnd, HasNoLineFeed, line_feed, portion_bytes}
 use Rattle.rb_source.specs.Framing.Portion.{Content, Flush}
 
--- a portion, and then the bytes from `span` on
+-- a portion, followed by the bytes from `span` on
 pub record BeginsWith (framing : Framing) (len : ℕ) (bytes : List ℕ) (portion : Portion) (span : ℕ) : Type 0 where
   pub portion_is : IsPortion framing len portion
   pub text : bytes ≡ portion_bytes framing portion ++ drop span bytes
@@ -24,7 +24,7 @@ FindsFront framing len bytes fronts.End = BeginsWithEnd framing bytes
 FindsFront framing len bytes (fronts.Whole p) =
     BeginsWith framing len bytes (Content (at_place p bytes)) p.span × (p.start + p.len ≤ length bytes)
 
--- the place of the first line feed
+-- the index of the first line feed
 abbrev pub FindsLineFeed : List ℕ → Option ℕ → Type 0
 FindsLineFeed bytes None = HasNoLineFeed bytes
 FindsLineFeed bytes (Some k) = (k < length bytes) × HasNoLineFeed (take k bytes) × (drop k bytes ≡ line_feed ∷ drop (k + 1) bytes)

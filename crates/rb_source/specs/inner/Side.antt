@@ -1,8 +1,8 @@
--- Contexts side by side in memory.
+-- Consecutive contexts in memory.
 use Rattle.std.specs.Prelude.{ℕ, suc, ◌≡◌, ◌≤◌, ◌*◌, List, [], ◌∷◌, length, take, drop}
 use Rattle.rb_source.specs.Piece.{room_for}
 
--- the first contexts of the bytes, so many of them, each of this length
+-- the first n contexts of the bytes, each of this length
 abbrev pub side_by_side : ℕ → ℕ → List ℕ → List (List ℕ)
 side_by_side ctx_len ℕ.zero bytes = []
 side_by_side ctx_len (suc n) bytes = take ctx_len bytes ∷ side_by_side ctx_len n (drop ctx_len bytes)

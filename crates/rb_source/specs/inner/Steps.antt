@@ -8,13 +8,13 @@ use Rattle.rb_source.specs.Framing.{BeginsWithEnd, IsPartial}
 use Rattle.rb_source.specs.Piece.{PieceContents, room_for}
 use Rattle.rb_source.specs.Stream.{FramedInput, GivesFrom, IsPart}
 
--- what holds of each source over a reader
+-- the invariant of a source over a reader
 pub record IsSource (framing : Framing) (form : Form) (kept : List ℕ) : Type 0 where
   pub lawful : IsForm form
   pub some : framing ≡ Fixed → 0 < form.len
   pub kept_len : length kept ≡ form.len
 
--- the step puts these contexts behind those of the piece
+-- the step appends these contexts to those of the piece
 pub record Appends {R : Type 0} (remaining : R → Option (List ℕ)) (old new : FramedInput R) (before after : PieceContents) : Type 0 where
   pub given : List (List ℕ)
   pub piece_is : after ≡ record before { contexts = before.contexts ++ given }
@@ -26,17 +26,17 @@ pub record GivesNone {R : Type 0} (remaining : R → Option (List ℕ)) (old new
   pub same : new.form ≡ old.form
   pub from : (part : List ℕ) → IsPart old part → GivesFrom remaining old.framing old.form old part [] new
 
--- no whole context is there, and no long one ends here
+-- there is no whole context, and no long one ends here
 abbrev pub IsPartialSource : {R : Type 0} → FramedInput R → Type 0
 IsPartialSource s = MatchOption s.long (IsPartial s.framing s.form.len s.rest) (λ long. s.rest ≡ [])
 
--- what a step over a long context leaves: all of it came, or not
+-- the state after a step over a long context: it is complete, or not
 abbrev pub OnPass : {R : Type 0} → Bool → FramedInput R → FramedInput R → PieceContents → PieceContents → Type 0
 OnPass true old new before after = (new.over ≡ false) × (new.long ≡ None)
 OnPass false old new before after = (new.over ≡ false) × (after ≡ before) × IsPartialSource new
 
--- what a step over the front leaves: it goes on while there is room and what was read gets less; it stops at the end of the stream, at the wish that what is
--- there is given, at a full piece, and where no whole portion is there
+-- the state after a step at the front: the steps continue while there is room and the read bytes get fewer; they stop
+-- at the end of the stream, at a flush, at a full piece, and if there is no whole portion
 abbrev pub OnFront : {R : Type 0} → Bool → FramedInput R → FramedInput R → PieceContents → Type 0
 OnFront true old new after = (new.over ≡ false) × (length new.rest < length old.rest) × (length after.contexts < room_for after.ctx_len)
 OnFront false old new after =

@@ -19,14 +19,14 @@ use crate::source::{Filled, SourceFault};
 use std::io::Read;
 
 impl<R: Read> FramedReader<R> {
-    // The number of contexts that came whole.
+    // Returns the number of contexts that arrived completely.
     pub(crate) fn came(&self) -> u64
         ensures value { result ≡ saturated (self.now.counts.given + self.now.counts.skipped) }
     {
         self.counts.given.saturating_add(self.counts.skipped)
     }
 
-    // The input has ended, and no long context has begun. The last line may lack its line feed.
+    // Handles the end of the input if no long context has begun. The last line may lack its line feed.
     pub(crate) fn end_short(&mut self, piece: &mut Piece) -> Result<Filled, SourceFault>
         requires open { self.old.over ≡ false }
         requires short { self.old.long ≡ None }
@@ -59,7 +59,7 @@ impl<R: Read> FramedReader<R> {
         }
     }
 
-    // The input has ended, and with it a long line.
+    // Handles the end of the input in a long line, which ends with it.
     pub(crate) fn end_line(&mut self, total: u32, piece: &mut Piece) -> Result<Filled, SourceFault>
         requires open { self.old.over ≡ false }
         requires long { self.old.long ≡ Some (Line total) }
@@ -82,7 +82,7 @@ impl<R: Read> FramedReader<R> {
         Ok(Filled::More)
     }
 
-    // The input has ended.
+    // Handles the end of the input.
     pub(crate) fn end(&mut self, piece: &mut Piece) -> Result<Filled, SourceFault>
         requires open { self.old.over ≡ false }
         requires partial { IsPartialSource self.old }

@@ -1,4 +1,5 @@
-//! A context that does not fit into the window: it is passed over, and given by its first bytes or skipped.
+//! Contexts that do not fit into the window: their bytes are discarded, and they are given by their first bytes or
+//! skipped.
 
 ghost use Rattle.std.specs.Prelude.{◌≡◌, ◌≤◌, ◌<◌, ◌+◌, ◌++◌, [], None, Some, length, true, false};
 ghost use Rattle.rb_source.specs.declared.framing.Framing.TheVariants.{Frames, Lines};
@@ -17,7 +18,7 @@ use crate::long::Long;
 use crate::piece::Piece;
 use std::io::Read;
 
-// Puts these bytes in the place of those that were kept.
+// Replaces the kept bytes with these.
 fn keep(kept: &mut Vec<u8>, front: &[u8])
     requires { length front.now ≡ length kept.old.items }
     ensures { kept.new.items ≡ front.now }
@@ -26,7 +27,7 @@ fn keep(kept: &mut Vec<u8>, front: &[u8])
 }
 
 impl<R: Read> FramedReader<R> {
-    // Gives or skips the long context, of which so many bytes came.
+    // Gives or skips the long context, of which `total` bytes arrived.
     pub(crate) fn finish_long(&mut self, total: u32, piece: &mut Piece)
         requires size { piece.old.ctx_len ≡ form_len self.old.form }
         requires room { length piece.old.contexts < room_for piece.old.ctx_len }
@@ -37,7 +38,7 @@ impl<R: Read> FramedReader<R> {
         self.long = None;
     }
 
-    // Passes over what came of a long frame. Returns whether all of it came.
+    // Discards the bytes of a long frame that have arrived. Returns whether the frame is complete.
     pub(crate) fn pass_frame(&mut self, total: u32, missing: u32, piece: &mut Piece) -> bool
         requires open { self.old.over ≡ false }
         requires long { self.old.long ≡ Some (Frame total missing) }
@@ -57,7 +58,7 @@ impl<R: Read> FramedReader<R> {
         true
     }
 
-    // Passes over what came of a long line. Returns whether all of it came.
+    // Discards the bytes of a long line that have arrived. Returns whether the line is complete.
     pub(crate) fn pass_line(&mut self, total: u32, piece: &mut Piece) -> bool
         requires open { self.old.over ≡ false }
         requires long { self.old.long ≡ Some (Line total) }
@@ -84,7 +85,7 @@ impl<R: Read> FramedReader<R> {
         }
     }
 
-    // The window is full and holds no whole frame: that frame is passed over from here on.
+    // Starts to discard a frame, because the window is full and holds no whole frame.
     pub(crate) fn begin_frame(&mut self)
         requires frames { self.old.framing ≡ Frames }
         requires open { self.old.over ≡ false }
@@ -104,7 +105,7 @@ impl<R: Read> FramedReader<R> {
         self.long = Some(Long::Frame { total, missing });
     }
 
-    // The window is full and holds no whole line: that line is passed over from here on.
+    // Starts to discard a line, because the window is full and holds no whole line.
     pub(crate) fn begin_line(&mut self)
         requires lines { self.old.framing ≡ Lines }
         requires open { self.old.over ≡ false }
@@ -123,7 +124,7 @@ impl<R: Read> FramedReader<R> {
         self.long = Some(Long::Line { total });
     }
 
-    // The window is full and holds no whole context: that context is passed over from here on.
+    // Starts to discard a context, because the window is full and holds no whole context.
     pub(crate) fn begin_long(&mut self)
         requires open { self.old.over ≡ false }
         requires short { self.old.long ≡ None }

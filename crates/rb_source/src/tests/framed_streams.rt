@@ -1,4 +1,4 @@
-//! Streams of frames, lines and contexts of one length, which a reader gives a few bytes at a time.
+//! Tests of streams of frames, lines and contexts of one length, which a reader gives a few bytes at a time.
 
 ghost use Rattle.std.specs.Prelude.{◌≡◌, ◌<◌};
 ghost use Rattle.rb_source.specs.declared.framing.Framing.TheVariants.{Fixed};
@@ -15,7 +15,7 @@ use std::io::{Error, ErrorKind, Read, Result as IoResult};
 use std::process::Abort;
 use std::rt::HostRuntime;
 
-// Gives its bytes, `most` at a time, and then the end. Its read number `fails_at`, counted from 0, fails.
+// A reader that gives its bytes, `most` at a time, and then the end. Its read number `fails_at`, counted from 0, fails.
 #[derive(Drop)]
 struct CutReader<'a> {
     rest: &'a [u8],
@@ -50,7 +50,8 @@ fn cut_reader(bytes: &[u8], most: usize) -> CutReader<'_> {
     }
 }
 
-// What a source gave until it ended or failed: the contexts one after the other, each with a bar behind it; how it ended; and its counts.
+// What a source gave until it ended or failed: the contexts one after the other, each followed by a bar; how it ended;
+// and its counts.
 #[derive(Drop)]
 struct Given {
     text: Vec<u8>,
@@ -116,7 +117,8 @@ const CUT: Form = Form {
     with_length: true,
 };
 
-// Whether the stream gives this, and ends and counts like this, by reads of some sizes; those of one byte cut it at every place.
+// Returns whether the stream gives this, with this end and these counts, for several sizes of reads; reads of one byte
+// cut it at every place.
 fn is_given(
     alloc: Global,
     framing: Framing,
@@ -246,7 +248,7 @@ fn lines_are_given_however_the_reads_cut_them(rt: HostRuntime) {
     );
 }
 
-// Each front of the frames: the input ends between two of them, or inside one.
+// For each prefix of the frames, the input ends between two of them, or inside one.
 #[test]
 fn an_input_that_ends_inside_a_frame_fails(rt: HostRuntime) {
     let alloc = rt.alloc();
@@ -354,7 +356,7 @@ fn a_context_that_does_not_fit_is_cut_or_skipped(rt: HostRuntime) {
     }
 }
 
-// After a failed read the next call reads on; an interrupted one is read again by the same call.
+// After a failed read the next call continues to read; an interrupted read is repeated by the same call.
 #[test]
 fn a_failed_read_loses_nothing(rt: HostRuntime) {
     let alloc = rt.alloc();

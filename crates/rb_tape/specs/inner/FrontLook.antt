@@ -1,4 +1,4 @@
--- What a look at the front of a tape's bytes finds, as the readers share it.
+-- The result of examining the front of a tape's bytes, which both readers use.
 use Rattle.std.specs.Prelude.{ℕ, ◌≤◌, if◌then◌else◌, List, length, drop, Option, None, Some, Result, Ok, Err}
 use Rattle.rb_history.specs.declared.headers.Header.{Header}
 use Rattle.rb_history.specs.Span.{span}
@@ -7,7 +7,7 @@ use Rattle.rb_history.specs.TapeBytes.Item.{Event, Skip}
 use Rattle.rb_tape.specs.declared.fault.TapeKind.{TapeKind}
 use Rattle.rb_tape.specs.TapeFront.{StartsWithItem, ShowsFault, IsUndecided, payload_behind}
 
--- the item that a header and the bytes behind it make
+-- the item that a header and the bytes after it form
 abbrev pub item_behind : ℕ → Header → List ℕ → Item
 item_behind position h behind = if h.discard then Skip position h.len else Event position (payload_behind h behind)
 
@@ -16,7 +16,7 @@ pub record HasWholeItem (size position : ℕ) (bytes : List ℕ) (h : Header) : 
   pub starts : StartsWithItem size position bytes (item_behind position h (drop 8 bytes)) (drop (span h.len) bytes)
   pub there : span h.len ≤ length bytes
 
--- what a look answers
+-- the possible results
 abbrev pub FindsAtFront : ℕ → ℕ → List ℕ → Result (Option Header) TapeKind → Type 0
 FindsAtFront size position bytes (Err kind) = ShowsFault size position bytes kind
 FindsAtFront size position bytes (Ok None) = IsUndecided size position bytes

@@ -1,4 +1,4 @@
--- How the logic stores a record of a tape.
+-- The encoding of a tape's record in the logic.
 use Rattle.std.specs.Prelude.{◌≡◌, ℕ, List, [], ◌==◌, cond, refl}
 use Rattle.std.specs.Coded.{Coded, code_by, coded×, coded_ℕ, coded_list}
 use Rattle.rb_history.specs.TapeBytes.{Item}

@@ -1,4 +1,4 @@
--- A call of `feed`, by its numbers and texts in order.
+-- A call of `feed`, with its numbers and texts in order.
 use Rattle.std.specs.Prelude.{ℕ, List, Option}
 use Rattle.rb_tape_commands.specs.Feed.{FeedRun}
 

@@ -1,4 +1,4 @@
--- The printing of a tape, piece by piece of the input.
+-- Printing a tape, piece by piece of the input.
 use Rattle.std.specs.Prelude.{ℕ, ◌≡◌, ◌≢◌, ◌-◌, List, [], Option, None, Result, Ok, Err}
 use Rattle.std.specs.Io.KnownBytes.{Appends, Consumes}
 use Rattle.rb_history.specs.TapeBytes.{Item}
@@ -10,13 +10,14 @@ use Rattle.rb_tape.specs.declared.fault.TapeKind.TheVariants.{Truncated}
 use Rattle.rb_tape_commands.specs.declared.tape_refusal.TapeRefusal.{TapeRefusal}
 use Rattle.rb_tape_commands.specs.declared.tape_refusal.TapeRefusal.TheVariants.{Record}
 
--- the input ends: no bytes are left, or they are cut off
+-- at the end of the input, no bytes are left, or the rest is a record that was cut off
 abbrev pub EndsTape : Reading → Result (Unit {0}) TapeRefusal → Type 0
 EndsTape r (Ok _) = r.rest ≡ []
 EndsTape r (Err (Record kind offset)) = (r.rest ≢ []) × (kind ≡ Truncated) × (offset ≡ r.position - r.start)
 EndsTape r (Err _) = ⊥
 
--- So far: these bytes of the input were read; the reader has read these items of them, whose lines were printed, and it has told no fault.
+-- So far: these bytes of the input were read; the reader has read these items from them, whose lines were printed, and
+-- has reported no fault.
 pub record PrintsSoFar (form : LineForm) (size start : ℕ) (unread left before after : Option (List ℕ)) (r : Reading) : Type 0 where
   pub bytes : List ℕ
   pub items : List Item

@@ -13,7 +13,7 @@ use std::alloc::Global;
 /// The length of the context that the programs are verified for, in bytes.
 const CONTEXT: u32 = 16;
 
-/// Decodes, shapes and verifies a program, for so many rings.
+/// Decodes, shapes and verifies a program, for `rings` rings.
 pub(crate) fn load(alloc: Global, bytes: &[u8], rings: u32) -> Result<Verified, TrialFault>
     requires { rings ≤ 16 }
 {
@@ -23,13 +23,13 @@ pub(crate) fn load(alloc: Global, bytes: &[u8], rings: u32) -> Result<Verified, 
     }
 }
 
-/// The program of so many units of this kind, verified for one ring.
+/// Returns the program of `units` units of this kind, verified for one ring.
 pub(crate) fn loaded(alloc: Global, body: Body, units: u32) -> Result<Verified, TrialFault> {
     let bytes = program_of(alloc, body, units)?;
     load(alloc, bytes.as_slice(), 1)
 }
 
-/// Loads a program for no ring `times` times, and answers how many units it had in all.
+/// Loads a program for no ring `times` times, and returns how many units it had in all.
 pub(crate) fn load_often(alloc: Global, bytes: &[u8], times: u32) -> Result<u64, TrialFault> {
     let mut units: u64 = 0;
     for _ in 0..times {
@@ -39,8 +39,8 @@ pub(crate) fn load_often(alloc: Global, bytes: &[u8], times: u32) -> Result<u64,
     Ok(units)
 }
 
-/// Runs a program `rounds` times over a context of 16 zero bytes, with helpers that grant every call, and answers the sum of
-/// the results.
+/// Runs a program `rounds` times over a context of 16 zero bytes, with helpers that grant every call, and returns the
+/// sum of the results.
 pub(crate) fn run_rounds(
     alloc: Global,
     program: &Verified,

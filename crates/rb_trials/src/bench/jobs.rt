@@ -14,18 +14,18 @@ use std::alloc::Global;
 use std::sync::Wait;
 use std::thread::Threads;
 
-// The size of the ring of jobs, in bytes.
+// The size of the ring, in bytes.
 const JOBS_SIZE: u64 = 1_048_576;
 
-// Each job's context.
+// The context of each job.
 static CONTEXT: [u8; 16] = [0; 16];
 
-/// The program that each job runs, verified for one ring.
+/// Returns the program that each job runs, verified for one ring.
 pub(crate) fn reserving_program(alloc: Global) -> Result<Verified, TrialFault> {
     load(alloc, RESERVING.as_slice(), 1)
 }
 
-/// So many jobs of each worker, worker by worker.
+/// Returns `each` jobs for each worker, worker by worker.
 pub(crate) fn jobs_of<'j>(
     alloc: Global,
     program: &'j Verified,
@@ -55,7 +55,8 @@ fn push_jobs<'j>(
     Ok(())
 }
 
-/// An empty ring for so many workers, whose records nobody keeps. Its chapters have the room that `rbhost run` gives them.
+/// Returns an empty ring for `workers` workers, whose sink keeps nothing. Its chapters have the room that `rbhost run`
+/// gives them.
 pub(crate) fn opened<R: Wait>(
     rt: &R,
     alloc: Global,
@@ -71,7 +72,7 @@ pub(crate) fn opened<R: Wait>(
     }
 }
 
-/// Runs the jobs, and answers how many got no record.
+/// Runs the jobs, and returns how many got no record.
 pub(crate) fn run_all<R: Threads + Wait + Sync>(
     rt: &R,
     alloc: Global,
@@ -97,7 +98,7 @@ fn refused_among(answers: &[Result<u64, RunFault>]) -> u64 {
     refused
 }
 
-/// Opens a ring, runs so many jobs of each worker over it, and answers how many got no record.
+/// Opens a ring, runs `each` jobs of each worker over it, and returns how many got no record.
 pub(crate) fn run_over<R: Threads + Wait + Sync>(
     rt: &R,
     alloc: Global,

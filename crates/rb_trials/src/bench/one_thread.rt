@@ -8,27 +8,28 @@ use rb_history::Taken;
 use rb_lend::{Lent, Sheet};
 use std::alloc::Global;
 
-/// The size of the rings that are measured, in bytes.
+/// The size of the measured rings, in bytes.
 pub(crate) const SIZE: u64 = 65_536;
 
-/// How many entries each chapter of a shared ring's history has room for.
+/// The number of entries that each chapter of a shared ring's history has room for.
 pub(crate) const ROOM: u32 = 65_536;
 
-// How many entries each chapter of the ring of one thread has room for: 256 kilobytes of entries, which stay in the second cache level.
+// The number of entries that each chapter of the ring of one thread has room for: 256 kilobytes of entries, which stay
+// in the second-level cache.
 const COURSE_ROOM: u32 = 8_192;
 
 // The byte that fills each record.
 const FILL: u8 = 42;
 
-// A ring for one worker, and the chapter in which it goes on.
+// A ring for one worker, and the chapter in which it continues.
 #[derive(Drop)]
 struct Course {
     ring: RingState,
     spare: Option<Chapter>,
 }
 
-/// Outputs and takes `records` records of `len` bytes, one after the other, and answers the sum of their first bytes. One
-/// sheet goes round, and two chapters.
+/// Outputs and takes `records` records of `len` bytes, one after the other, and returns the sum of their first bytes.
+/// One sheet and two chapters are reused throughout.
 pub(crate) fn output_and_take(alloc: Global, records: u32, len: u32) -> Result<u64, TrialFault> {
     let (mut course, sheet) = opened(alloc, len)?;
     output_rounds(&mut course, sheet, records)
@@ -47,7 +48,7 @@ fn output_rounds(course: &mut Course, mut sheet: Sheet, records: u32) -> Result<
 }
 
 #[inline(always)]
-// One record through the ring: the sheet is filled, output and taken.
+// Sends one record through the ring: fills the sheet, outputs it and takes it.
 fn pass(ring: &mut RingState, mut sheet: Sheet) -> Result<Sheet, TrialFault>
     requires { ring.old.state.ring.chapter.opening.setup.workers ≡ 1 }
     ensures { ring.new.state.ring.chapter.opening ≡ ring.old.state.ring.chapter.opening }
@@ -59,8 +60,8 @@ fn pass(ring: &mut RingState, mut sheet: Sheet) -> Result<Sheet, TrialFault>
     next_sheet(ring)
 }
 
-/// Reserves, writes, submits and takes `records` records of `len` bytes, one after the other, and answers the sum of their
-/// first bytes. One sheet goes round, and two chapters.
+/// Reserves, writes, submits and takes `records` records of `len` bytes, one after the other, and returns the sum of
+/// their first bytes. One sheet and two chapters are reused throughout.
 pub(crate) fn reserve_and_submit(alloc: Global, records: u32, len: u32) -> Result<u64, TrialFault> {
     let (mut course, sheet) = opened(alloc, len)?;
     submit_rounds(&mut course, sheet, records)
@@ -80,7 +81,7 @@ fn submit_rounds(course: &mut Course, mut sheet: Sheet, records: u32) -> Result<
 }
 
 #[inline(always)]
-// One record of the sheet's length is reserved, written and submitted.
+// Reserves, writes and submits one record of the sheet's length.
 fn hold_and_submit(ring: &mut RingState, sheet: Sheet) -> Result<(), TrialFault>
     requires { ring.old.state.ring.chapter.opening.setup.workers ≡ 1 }
     ensures { ring.new.state.ring.chapter.opening ≡ ring.old.state.ring.chapter.opening }
@@ -97,7 +98,7 @@ fn hold_and_submit(ring: &mut RingState, sheet: Sheet) -> Result<(), TrialFault>
     Ok(())
 }
 
-// An empty ring for one worker with an empty chapter, and a sheet of `len` bytes.
+// Returns an empty ring for one worker with an empty chapter, and a sheet of `len` bytes.
 fn opened(alloc: Global, len: u32) -> Result<(Course, Sheet), TrialFault>
     ensures { IfOk result (λ o. o.0.ring.state.ring.chapter.opening.setup.workers ≡ 1) }
 {
@@ -120,7 +121,7 @@ fn empty_course(alloc: Global) -> Result<Course, TrialFault>
 }
 
 #[inline(always)]
-// Has the ring go on in the spare chapter, where its own has no room for one more record.
+// Lets the ring continue in the spare chapter if its own has no room for another record.
 fn make_chapter_room(ring: &mut RingState, spare: &mut Option<Chapter>) -> Result<(), TrialFault>
     ensures { ring.new.state.ring.chapter.opening.setup ≡ ring.old.state.ring.chapter.opening.setup }
 {
@@ -132,7 +133,7 @@ fn make_chapter_room(ring: &mut RingState, spare: &mut Option<Chapter>) -> Resul
 
 #[cold]
 #[inline(never)]
-// Hands the ring's chapter out for the spare one. The old one is emptied, and is the next spare one.
+// Hands out the ring's chapter in exchange for the spare one. The old one is cleared, and becomes the spare one.
 fn turn_chapter(ring: &mut RingState, spare: &mut Option<Chapter>) -> Result<(), TrialFault>
     ensures { ring.new.state.ring.chapter.opening.setup ≡ ring.old.state.ring.chapter.opening.setup }
 {
@@ -148,7 +149,7 @@ fn turn_chapter(ring: &mut RingState, spare: &mut Option<Chapter>) -> Result<(),
 }
 
 #[inline(always)]
-// The bytes of the record that is taken next.
+// Takes the next record and returns its bytes.
 fn next_sheet(ring: &mut RingState) -> Result<Sheet, TrialFault>
     ensures { ring.new.state.ring.chapter.opening ≡ ring.old.state.ring.chapter.opening }
 {

@@ -1,4 +1,4 @@
-//! The input that `rbhost feed` is measured with.
+//! The input for the measurement of `rbhost feed`.
 
 use crate::fault::TrialFault;
 use std::alloc::Global;
@@ -8,10 +8,10 @@ use std::io::{BufWriter, Write};
 /// The length of each payload in bytes.
 const LENGTH: u8 = 64;
 
-// How many payloads: 64,000,000 bytes of them, beside their lengths.
+// The number of payloads: 64,000,000 bytes, not counting their lengths.
 const COUNT: u32 = 1_000_000;
 
-/// Writes the payloads, each behind its length in four bytes.
+/// Writes the payloads, each after its length in four bytes.
 pub(crate) fn write<W: Write>(alloc: Global, out: &mut W) -> Result<(), TrialFault> {
     let mut out = BufWriter::new(alloc, out)?;
     write_all(&mut out)?;

@@ -1,9 +1,10 @@
-//! The programs that are measured, as bytes.
+//! The measured programs, as bytes.
 
 use rb_insn::{BinaryOp, Insn, Operand, Reg, Size, Width};
 use std::alloc::{AllocError, Global};
 
-/// Reserves a record of eight bytes on ring 0, and ends with 1 where there is none; else it stores 42 there, submits it, and ends with 0.
+/// Reserves a record of eight bytes on ring 0, and returns 1 if it is null; otherwise stores 42 there, submits it, and
+/// returns 0.
 pub(crate) const RESERVING: [u8; 112] = [
     0x18, 0x51, 0, 0, 0, 0, 0, 0, 0, 0, 0, 0, 0, 0, 0, 0, // r1 = map_by_idx(0)
     0xb7, 0x02, 0, 0, 8, 0, 0, 0, // r2 = 8
@@ -20,7 +21,8 @@ pub(crate) const RESERVING: [u8; 112] = [
     0x95, 0, 0, 0, 0, 0, 0, 0, // exit
 ];
 
-// r6 gets the context, r7 a record of eight bytes of ring 0, and r0 is 7. Where there is no record the program ends with 1.
+// Sets r6 to the context, r7 to a record of eight bytes of ring 0, and r0 to 7. If there is no record, the program
+// returns 1.
 const RECORD_RESERVED: [u8; 88] = [
     0xbf, 0x16, 0, 0, 0, 0, 0, 0, // r6 = r1
     0x18, 0x51, 0, 0, 0, 0, 0, 0, 0, 0, 0, 0, 0, 0, 0, 0, // r1 = map_by_idx(0)
@@ -34,7 +36,7 @@ const RECORD_RESERVED: [u8; 88] = [
     0xb7, 0, 0, 0, 7, 0, 0, 0, // r0 = 7
 ];
 
-// Discards the record in r7, and ends with what r0 holds.
+// Discards the record in r7, and returns r0.
 const RECORD_DISCARDED: [u8; 48] = [
     0xbf, 0x08, 0, 0, 0, 0, 0, 0, // r8 = r0
     0xbf, 0x71, 0, 0, 0, 0, 0, 0, // r1 = r7
@@ -47,17 +49,18 @@ const RECORD_DISCARDED: [u8; 48] = [
 /// What a program does between its first unit and its exit.
 #[derive(Clone, Copy)]
 pub(crate) enum Body {
-    /// It adds, excludes, multiplies, shifts and adds in turn.
+    /// It adds, xors, multiplies, shifts and adds in turn.
     Arithmetic,
     /// It stores and loads eight bytes on the stack in turn.
     Stack,
-    /// It stores and loads eight bytes on the stack, loads eight of the context, and stores and loads eight in a record, in turn.
+    /// It stores and loads eight bytes on the stack, loads eight bytes of the context, and stores and loads eight bytes
+    /// in a record, in turn.
     Memory,
-    /// It keeps a pointer at each of the stack's 64 places in turn, round and round.
+    /// It stores a pointer at each of the stack's 64 places in turn, repeatedly.
     Spilling,
 }
 
-/// A program of this kind that executes `units` instructions and an exit.
+/// Returns a program of this kind that executes `units` instructions and an exit.
 pub(crate) fn program_of(alloc: Global, body: Body, units: u32) -> Result<Vec<u8>, AllocError> {
     let mut bytes = Vec::new(alloc);
     let beside = push_start(&mut bytes, body)?;
@@ -68,7 +71,8 @@ pub(crate) fn program_of(alloc: Global, body: Body, units: u32) -> Result<Vec<u8
     Ok(bytes)
 }
 
-// Adds what stands before the units, and answers how many instructions are executed beside them and the exit.
+// Appends the instructions before the units, and returns how many instructions are executed besides the units and the
+// exit.
 fn push_start(bytes: &mut Vec<u8>, body: Body) -> Result<u32, AllocError> {
     match body {
         Body::Arithmetic => {
@@ -167,7 +171,7 @@ fn set(dst: Reg, value: i32) -> Insn {
     }
 }
 
-// Adds the spelling of an instruction.
+// Appends the encoding of an instruction.
 fn push(bytes: &mut Vec<u8>, insn: &Insn) -> Result<(), AllocError> {
     let mut unit = [0; 16];
     let count = insn.spell(&mut unit);

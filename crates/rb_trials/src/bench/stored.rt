@@ -1,4 +1,4 @@
-//! The stored run: a small run of each workload, whose output is the same each time.
+//! The stored run: a small run of each workload, with the same output each time.
 
 use super::interpreting::{loaded, run_rounds};
 use super::jobs::{reserving_program, run_over};
@@ -11,7 +11,7 @@ use std::io::Print;
 use std::sync::Wait;
 use std::thread::Threads;
 
-/// Runs each workload once, small, and prints what came of it.
+/// Runs each workload once, small, and prints its result.
 pub(crate) fn run<R: Threads + Wait + Sync + Print>(
     rt: &R,
     alloc: Global,
@@ -46,13 +46,13 @@ pub(crate) fn run<R: Threads + Wait + Sync + Print>(
     Ok(())
 }
 
-// What a program of 1,000 units ends with.
+// Returns the result of a program of 1,000 units.
 fn end_of(alloc: Global, body: Body) -> Result<u64, TrialFault> {
     let program = loaded(alloc, body, 1000)?;
     run_rounds(alloc, &program, 1)
 }
 
-// How many of 1,000 jobs got no record.
+// Returns how many of 1,000 jobs got no record.
 fn jobs_refused<R: Threads + Wait + Sync>(rt: &R, alloc: Global) -> Result<u64, TrialFault> {
     let program = reserving_program(alloc)?;
     run_over(rt, alloc, &program, 2, 500)

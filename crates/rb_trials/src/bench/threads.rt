@@ -13,13 +13,15 @@ use std::alloc::Global;
 use std::sync::Wait;
 use std::thread::Threads;
 
-// How many records the consumer takes at most under one holding of the lock.
+// The maximal number of records that the consumer takes under one acquisition of the lock.
 const BATCH: usize = 64;
 
-// A chapter is handed out when half of its room is left: what producers may add until the consumer comes round again.
+// A chapter is handed out when half of its room is left: the number of entries that producers may add until the
+// consumer looks again.
 const MARGIN: u32 = ROOM / 2;
 
-// What the consumer has beside its seat: the records that it took last, and what hands the ring's chapters out.
+// The consumer's state besides its seat: the records that it took last, and the keeper that hands out the ring's
+// chapters.
 #[derive(Drop)]
 struct BenchDesk {
     batch: Batch,
@@ -27,14 +29,14 @@ struct BenchDesk {
 }
 
 impl Consumer for BenchDesk {
-    // Hands the ring's chapter out where it is due, and takes a batch.
+    // Hands out the ring's chapter if it is due, and takes a batch.
     fn look<R: Wait>(&mut self, rt: &R, ring: &SharedRing, seat: &mut ConsumerSeat) -> Found {
         let _turned = self.keeper.turn(rt, ring, seat);
         Found::of(self.batch.fill(rt, ring, seat).unwrap_or(0), BATCH)
     }
 }
 
-/// What came of a run.
+/// The result of a run.
 #[derive(Clone, Copy)]
 pub(crate) struct Shared {
     /// How many records the consumer was handed.
@@ -43,7 +45,7 @@ pub(crate) struct Shared {
     pub refused: u64,
 }
 
-/// Lets each of `producers` threads output `each` records of eight bytes, while another takes them all.
+/// Lets each of `producers` threads output `each` records of eight bytes, while another thread takes them all.
 pub(crate) fn share<R: Threads + Wait + Sync>(
     rt: &R,
     alloc: Global,
@@ -64,7 +66,7 @@ pub(crate) fn share<R: Threads + Wait + Sync>(
     })
 }
 
-// The producers and the consumer, until all is taken.
+// Runs the producers and the consumer, until everything is taken.
 fn run_threads<R: Threads + Wait + Sync>(
     rt: &R,
     alloc: Global,

@@ -1,4 +1,4 @@
-//! How long the rounds of a workload take.
+//! The duration of the rounds of a workload.
 
 ghost use Rattle.rb_workers.specs.Opened.{AreOpened};
 
@@ -17,7 +17,7 @@ use std::sync::Wait;
 use std::thread::Threads;
 use std::time::{Clock, Instant};
 
-// How often a workload runs and is told, after once that is not.
+// How often a workload runs and is reported, after one run that is not.
 const ROUNDS: u32 = 3;
 
 // How often a program of 4,000 units is loaded in each round, and how often it runs.
@@ -25,14 +25,15 @@ const LOADS: u32 = 20;
 
 const RUNS: u32 = 250;
 
-/// What a round came to.
+/// The result of a round.
 #[derive(Clone, Copy)]
 struct Round {
     nanos: u64,
     refused: u64,
 }
 
-/// Runs a workload once, and then prints for each of three rounds a line of its nanoseconds and of how many records or jobs were refused.
+/// Runs a workload once, and then prints for each of three rounds a line with its nanoseconds and with how many records
+/// or jobs were refused.
 pub(crate) fn run<R: Threads + Wait + Sync + Print + Clock>(
     rt: &R,
     alloc: Global,
@@ -46,7 +47,7 @@ pub(crate) fn run<R: Threads + Wait + Sync + Print + Clock>(
     Ok(())
 }
 
-// One round of a workload; what it works on is made before the clock starts.
+// Runs one round of a workload; its data are made before the clock starts.
 fn one_round<R: Threads + Wait + Sync + Clock>(
     rt: &R,
     alloc: Global,
@@ -132,7 +133,7 @@ fn jobs_over<R: Threads + Wait + Sync + Clock>(
     timed_jobs(rt, alloc, rings, jobs.as_slice())
 }
 
-// The time from the threads' start to their end.
+// Measures the time from the threads' start to their end.
 fn timed_jobs<R: Threads + Wait + Sync + Clock>(
     rt: &R,
     alloc: Global,
@@ -146,7 +147,7 @@ fn timed_jobs<R: Threads + Wait + Sync + Clock>(
     ended(rt, start, refused)
 }
 
-// A round that began then and ends now.
+// Returns a round that began at `start` and ends now.
 fn ended<R: Clock>(rt: &R, start: Instant, refused: u64) -> Result<Round, TrialFault> {
     let elapsed = start.elapsed(rt)?;
     let nanos = u64::try_from(elapsed.as_nanos()).unwrap_or(u64::MAX);

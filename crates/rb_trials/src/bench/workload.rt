@@ -1,4 +1,4 @@
-//! What is measured, and the words that name it.
+//! The workloads that are measured, and the arguments that name them.
 
 use crate::fault::TrialFault;
 use crate::numbers::small;
@@ -6,15 +6,16 @@ use crate::numbers::small;
 /// A workload with its numbers.
 #[derive(Clone, Copy)]
 pub(crate) enum Workload {
-    /// Records of some bytes are output and taken in one thread.
+    /// Records of `len` bytes are output and taken in one thread.
     OutputTake { len: u32, records: u32 },
-    /// Records of some bytes are reserved, written, submitted and taken in one thread.
+    /// Records of `len` bytes are reserved, written, submitted and taken in one thread.
     ReserveSubmitTake { len: u32, records: u32 },
-    /// Some threads output so many records of eight bytes each, while another takes them all.
+    /// Each of some threads outputs the same number of records of eight bytes, while another thread takes them all.
     Shared { producers: u32, each: u32 },
     /// A program of some arithmetic units is decoded, shaped and verified.
     Load { units: u32 },
-    /// A program of 4,096 units that keep a pointer at each place of the stack in turn is decoded, shaped and verified.
+    /// A program of 4,096 units that store a pointer at each place of the stack in turn is decoded, shaped and
+    /// verified.
     Spill,
     /// A program of 4,000 arithmetic units runs.
     Arithmetic,
@@ -22,12 +23,14 @@ pub(crate) enum Workload {
     Stack,
     /// A program of 4,000 loads and stores of the stack, the context and a record runs.
     Memory,
-    /// Some workers run so many jobs each, each of which reserves a record of eight bytes, writes and submits it.
+    /// Each of some workers runs the same number of jobs, each of which reserves a record of eight bytes, writes and
+    /// submits it.
     Jobs { workers: u32, each: u32 },
 }
 
 impl Workload {
-    /// The workload of a name and its numbers, 0 where one is left out or none; those that it does not take are not looked at.
+    /// Parses a workload's name and numbers. A number that is missing or invalid is 0; numbers that the workload does
+    /// not take are ignored.
     pub(crate) fn read(words: &[String]) -> Result<Workload, TrialFault> {
         let [name, numbers @ ..] = words else {
             return Err(TrialFault::Usage);
@@ -40,7 +43,7 @@ impl Workload {
     }
 }
 
-// The workloads that take two numbers.
+// Returns the workloads that take two numbers.
 fn workload_of_records(name: &str, first: u32, second: u32) -> Option<Workload> {
     match name {
         "output_take" => Some(Workload::OutputTake {
@@ -63,7 +66,7 @@ fn workload_of_records(name: &str, first: u32, second: u32) -> Option<Workload> 
     }
 }
 
-// The workloads of one program, which take one number or none.
+// Returns the workloads of one program, which take one number or none.
 fn workload_of_programs(name: &str, units: u32) -> Result<Workload, TrialFault> {
     match name {
         "load" => Ok(Workload::Load { units }),
@@ -75,7 +78,7 @@ fn workload_of_programs(name: &str, units: u32) -> Result<Workload, TrialFault> 
     }
 }
 
-// The number that a word spells; 0 where there is none.
+// Returns the number in an argument, or 0 if there is none.
 fn number(word: Option<&String>) -> u32 {
     match word {
         Some(word) => small(word.as_str()),

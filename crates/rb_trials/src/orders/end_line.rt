@@ -1,4 +1,4 @@
-//! The line of where an order ended.
+//! The line about the final state of an order.
 
 use rb_chapter_ring::RingState;
 use rb_history::Taken;
@@ -7,7 +7,8 @@ use rb_world::{Actor, World};
 use std::io;
 use std::io::Write;
 
-/// Writes what each worker's program ended with, the ring's positions and counts, and what was taken of it, in order.
+/// Writes the result of each worker's program, the ring's positions and counts, and the records that were taken, in
+/// order.
 pub(crate) fn write_end<W: Write>(world: &World<'_>, workers: u32, out: &mut W) -> io::Result<()> {
     write_results(world, workers, out)?;
     if !world.has(Actor::Consumer(0)) {
@@ -20,7 +21,7 @@ pub(crate) fn write_end<W: Write>(world: &World<'_>, workers: u32, out: &mut W) 
     writeln!(out)
 }
 
-// Where the ring stands.
+// Writes the ring's positions and counts.
 fn write_counts<W: Write>(ring: &RingState, out: &mut W) -> io::Result<()> {
     let (producer, consumer, counts) = (ring.query(3), ring.query(2), ring.counts());
     write!(
@@ -39,7 +40,7 @@ fn write_results<W: Write>(world: &World<'_>, workers: u32, out: &mut W) -> io::
     Ok(())
 }
 
-// What a worker's program ended with, or at which unit it is.
+// Writes the result of a worker's program, or the unit that it is at.
 fn write_result<W: Write>(ended: Option<u64>, at: Option<u32>, out: &mut W) -> io::Result<()> {
     match (ended, at) {
         (Some(value), _) => write!(out, "done {value} "),
@@ -48,7 +49,8 @@ fn write_result<W: Write>(ended: Option<u64>, at: Option<u32>, out: &mut W) -> i
     }
 }
 
-// A record that was taken: its position, worker, serial, length and bytes up to the zeros that end it; or one that was passed over.
+// Writes a record that was taken (its position, worker, serial, length, and its bytes up to the zeros that end it), or
+// one that was skipped.
 fn write_taken<W: Write>(taken: &Taken, out: &mut W) -> io::Result<()> {
     match taken {
         Taken::Event(pos, worker, serial, sheet) => {

@@ -1,11 +1,12 @@
-//! Orders of actors, as words of a dictionary.
+//! Orders of actors, as words in lexicographic order.
 
 ghost use Rattle.std.specs.Prelude.{◌<◌, IfSome, length};
 
 use super::plan::OrdersPlan;
 use std::alloc::{AllocError, Global};
 
-/// The first order: each worker once for each of its steps, then the consumer, whose letter follows those of the workers.
+/// Returns the first order: each worker once for each of its steps, then the consumer, whose letter follows those of
+/// the workers.
 pub(crate) fn first_order(alloc: Global, plan: &OrdersPlan) -> Result<Vec<u32>, AllocError> {
     let mut order = Vec::new(alloc);
     push_first(&mut order, plan)?;
@@ -26,7 +27,7 @@ fn push_first(order: &mut Vec<u32>, plan: &OrdersPlan) -> Result<(), AllocError>
     Ok(())
 }
 
-/// Makes an order the next one in the dictionary; false where it was the last.
+/// Advances an order to the lexicographically next one. Returns false if it was the last.
 pub(crate) fn advance(order: &mut [u32]) -> bool {
     let Some(end) = last_rise(order) else {
         return false;
@@ -39,7 +40,7 @@ pub(crate) fn advance(order: &mut [u32]) -> bool {
     true
 }
 
-// The last place whose letter is greater than the one before it.
+// Returns the last index whose letter is greater than the one before it.
 fn last_rise(order: &[u32]) -> Option<usize>
     ensures within { IfSome result (λ place. place < length order.now) }
     ensures not_first { IfSome result (λ place. 0 < place) }
@@ -52,7 +53,7 @@ fn last_rise(order: &[u32]) -> Option<usize>
     None
 }
 
-// The last place whose letter is greater than this one.
+// Returns the last index whose letter is greater than this one.
 fn last_above(order: &[u32], letter: u32) -> Option<usize>
     ensures within { IfSome result (λ place. place < length order.now) }
 {

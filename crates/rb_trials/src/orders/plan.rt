@@ -1,4 +1,4 @@
-//! What is gone through: workers with their steps, and takes.
+//! The plan: workers with their steps, and takes.
 
 use crate::fault::TrialFault;
 use crate::loading;
@@ -6,7 +6,7 @@ use rb_program::from_text;
 use rb_verifier::Verified;
 use std::alloc::Global;
 
-/// A worker: its program, and how many turns each of its steps has.
+/// A worker: its program, and the number of turns of each of its steps.
 #[derive(Drop)]
 pub(crate) struct PlannedWorker {
     pub(crate) program: Verified,
@@ -17,7 +17,7 @@ pub(crate) struct PlannedWorker {
 #[derive(Drop)]
 pub(crate) struct OrdersPlan {
     pub(crate) workers: Vec<PlannedWorker>,
-    /// How many takes stand among the steps.
+    /// How many takes are interleaved with the steps.
     pub(crate) takes: u32,
     /// How many takes follow each step.
     pub(crate) after: u32,
@@ -26,7 +26,7 @@ pub(crate) struct OrdersPlan {
 }
 
 impl OrdersPlan {
-    /// The plan that some words spell.
+    /// Parses the plan from arguments.
     pub(crate) fn read(alloc: Global, words: &[String]) -> Result<OrdersPlan, TrialFault> {
         let [takes, after, last, rest @ ..] = words else {
             return Err(TrialFault::Usage);
@@ -44,13 +44,13 @@ impl OrdersPlan {
         })
     }
 
-    /// How many workers there are.
+    /// Returns the number of workers.
     pub(crate) fn count_workers(&self) -> u32 {
         u32::try_from(self.workers.len()).unwrap_or(u32::MAX)
     }
 }
 
-// The workers that pairs of words spell.
+// Parses the workers from pairs of arguments.
 fn workers_of(alloc: Global, words: &[String]) -> Result<Vec<PlannedWorker>, TrialFault> {
     let mut workers = Vec::new(alloc);
     for pair in words.chunks(2) {
@@ -75,7 +75,7 @@ fn number(word: &str) -> Result<u32, TrialFault> {
     }
 }
 
-// The numbers of a word, between its commas.
+// Parses the numbers of an argument, which are separated by commas.
 fn steps_of(alloc: Global, word: &str) -> Result<Vec<u32>, TrialFault> {
     let mut steps = Vec::new(alloc);
     for part in word.split(',') {
@@ -84,7 +84,7 @@ fn steps_of(alloc: Global, word: &str) -> Result<Vec<u32>, TrialFault> {
     Ok(steps)
 }
 
-// A program, verified for no context and one ring.
+// Returns a program, verified for no context and one ring.
 fn verified(alloc: Global, text: &str) -> Result<Verified, TrialFault> {
     match from_text(alloc, text) {
         Ok(program) => loading::verified(alloc, program, 0, 1),

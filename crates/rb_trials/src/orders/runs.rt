@@ -1,4 +1,4 @@
-//! Runs the orders of a plan, each in a world of its own.
+//! Running the orders of a plan, each in a separate world.
 
 use super::end_line::write_end;
 use super::order::{advance, first_order};
@@ -8,14 +8,14 @@ use rb_world::{Actor, RingSetup, WorkerSetup, World};
 use std::alloc::Global;
 use std::io::Write;
 
-// The smallest ring, and chapters with room for all that a few workers do.
+// The smallest ring, and chapters with room for everything that a few workers do.
 const RING: RingSetup = RingSetup {
     size: 4096,
     start: 0,
     room: 64,
 };
 
-/// Runs every order of a plan, and writes the line of its end.
+/// Runs every order of a plan, and writes the line about its final state.
 pub(crate) fn run_orders<W: Write>(
     alloc: Global,
     plan: &OrdersPlan,
@@ -55,7 +55,7 @@ fn run_from<W: Write>(
     Ok(())
 }
 
-// Runs an order in a world of its own, and writes the line of its end.
+// Runs an order in a new world, and writes the line about its final state.
 fn run_one<W: Write>(
     alloc: Global,
     plan: &OrdersPlan,
@@ -91,7 +91,7 @@ fn run_order(plan: &OrdersPlan, world: &mut World<'_>, order: &[u32], done: &mut
     go(world, Actor::Consumer(0), plan.last);
 }
 
-// Some turns of an actor that is there.
+// Runs some turns of an actor that exists.
 fn go(world: &mut World<'_>, actor: Actor, turns: u32) {
     for _ in 0..turns {
         if world.has(actor) {

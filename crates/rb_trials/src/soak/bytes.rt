@@ -1,6 +1,6 @@
-//! The bytes of records, which say whose they are.
+//! The bytes of records, which identify their worker and serial.
 
-/// Writes the bytes of a worker's record of this serial.
+/// Writes the bytes of a worker's record with this serial.
 pub(crate) fn write(bytes: &mut [u8], worker: u32, serial: u64) {
     let first = first_byte(worker, serial);
     for i in 0..bytes.len() {
@@ -8,7 +8,7 @@ pub(crate) fn write(bytes: &mut [u8], worker: u32, serial: u64) {
     }
 }
 
-/// Whether these are the bytes of the worker's record of this serial.
+/// Returns whether these are the bytes of the worker's record with this serial.
 pub(crate) fn are_right(bytes: &[u8], worker: u32, serial: u64) -> bool {
     let first = first_byte(worker, serial);
     for i in 0..bytes.len() {

@@ -11,10 +11,10 @@ use rb_shared_ring::{ConsumerSeat, SharedRing};
 use std::alloc::Global;
 use std::sync::Wait;
 
-/// How many records are taken at most under one holding of the lock.
+/// The maximal number of records that are taken under one acquisition of the lock.
 pub(crate) const BATCH: usize = 64;
 
-/// What a consumer has beside its seat.
+/// The consumer's state besides its seat.
 #[derive(Drop)]
 pub(crate) struct SoakDesk {
     pub(crate) alloc: Global,
@@ -23,12 +23,12 @@ pub(crate) struct SoakDesk {
     pub(crate) seen: SeenRecords,
     /// Whether each chapter is copied.
     pub(crate) is_bound: bool,
-    /// The chapters, copied.
+    /// The copies of the chapters.
     pub(crate) chapters: Vec<Chapter>,
 }
 
 impl Consumer for SoakDesk {
-    // Turns the ring's chapter, takes a batch, and looks at each of its records.
+    // Turns the ring's chapter, takes a batch, and checks each of its records.
     fn look<R: Wait>(&mut self, rt: &R, ring: &SharedRing, seat: &mut ConsumerSeat) -> Found {
         self.turn(rt, ring, seat);
         let count = self.batch.fill(rt, ring, seat).unwrap_or(0);
@@ -40,7 +40,8 @@ impl Consumer for SoakDesk {
 }
 
 impl SoakDesk {
-    // Hands the ring's chapter out where it is due, and keeps a copy where the chapters are to be bound, which looks at their numbers.
+    // Hands out the ring's chapter if it is due, and keeps a copy if the chapters are to be bound, which checks their
+    // numbers.
     fn turn<R: Wait>(&mut self, rt: &R, ring: &SharedRing, seat: &mut ConsumerSeat)
         requires { seat.old.ring ≡ ring.now.ring }
         ensures { IsSameChapterConsumer seat.old seat.new }

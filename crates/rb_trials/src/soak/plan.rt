@@ -1,15 +1,15 @@
-//! What is run.
+//! The plan of a run.
 
 use crate::fault::TrialFault;
 use crate::numbers::{number, small};
 
-// How many rings stand side by side at most.
+// The maximal number of concurrent rings.
 const MOST_RINGS: usize = 16;
 
-// Up to so many steps of all workers of a ring, its chapters are kept and bound at the end.
+// The maximal number of steps of all workers of a ring for which its chapters are kept and bound at the end.
 const BOUND_STEPS: u64 = 20_000;
 
-/// Rings of one kind, each with so many workers of its own, of which each makes so many steps.
+/// Rings of one kind, each with its own workers, each of which makes a number of steps.
 #[derive(Clone, Copy)]
 pub(crate) struct SoakPlan {
     pub(crate) workers: u32,
@@ -21,7 +21,7 @@ pub(crate) struct SoakPlan {
 }
 
 impl SoakPlan {
-    /// The plan that some words spell.
+    /// Parses the plan from arguments.
     pub(crate) fn read(words: &[String]) -> Result<SoakPlan, TrialFault> {
         let [workers, rings, size, room, steps, seed] = words else {
             return Err(TrialFault::Usage);
@@ -40,7 +40,7 @@ impl SoakPlan {
         Ok(plan)
     }
 
-    /// Whether the chapters are kept, to be bound once the ring is closed.
+    /// Returns whether the chapters are kept, to be bound after the ring is closed.
     pub(crate) fn is_bound(&self) -> bool {
         u64::from(self.workers) * u64::from(self.steps) <= BOUND_STEPS
     }

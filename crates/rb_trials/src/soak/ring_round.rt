@@ -18,7 +18,7 @@ use std::alloc::{AllocError, Global};
 use std::sync::Wait;
 use std::thread::Threads;
 
-/// Opens a ring, lets its workers and its consumer run to their ends, closes it, and tells what they counted.
+/// Opens a ring, runs its workers and its consumer until they end, closes it, and returns what they counted.
 pub(crate) fn round<R: Threads + Wait + Sync>(
     rt: &R,
     alloc: Global,
@@ -33,7 +33,7 @@ pub(crate) fn round<R: Threads + Wait + Sync>(
     close(rt, alloc, open, desk)
 }
 
-// What the consumer has at the beginning.
+// Returns the initial state of the consumer.
 fn desk_for(alloc: Global, plan: &SoakPlan) -> Result<SoakDesk, AllocError>
     requires room { IsChapterRoom plan.now.room }
     requires workers { IsWorkerCount plan.now.workers }
@@ -49,7 +49,7 @@ fn desk_for(alloc: Global, plan: &SoakPlan) -> Result<SoakDesk, AllocError>
     })
 }
 
-// Closes the ring, and tells what its seats, its consumer and it itself counted.
+// Closes the ring, and returns what its seats, its consumer and the ring counted.
 fn close<R: Wait>(
     rt: &R,
     alloc: Global,
@@ -69,7 +69,7 @@ fn close<R: Wait>(
     Ok(sums)
 }
 
-// What the seats counted, and whether it is what the consumer saw of each worker.
+// Returns what the seats counted, and checks it against what the consumer saw of each worker.
 fn sums_of(seats: &[Seat], consumer: &ConsumerSeat, seen: &SeenRecords) -> SoakSums {
     let mut sums = SoakSums::none();
     for seat in seats {
@@ -99,7 +99,7 @@ fn add_consumer(sums: &mut SoakSums, consumer: &ConsumerSeat, seen: &SeenRecords
     sums.wrong = sums.wrong.saturating_add(seen.wrong);
 }
 
-// Whether the closed ring counted what its seats and its consumer did.
+// Checks that the closed ring counted what its seats and its consumer did.
 fn check_closing(closing: &Closing, sums: &mut SoakSums) {
     let counts = closing.counts();
     sums.expect(counts.made == sums.made && counts.refused == sums.refused);

@@ -8,24 +8,24 @@ use std::alloc::{AllocError, Global};
 // What was seen of a worker's records.
 #[derive(Clone, Copy)]
 struct SeenWorker {
-    // The serial of its last event and one.
+    // The serial of its last event, plus one.
     next: u64,
     events: u64,
 }
 
-/// What was seen of a ring's records, and how many things were wrong with them.
+/// What was seen of a ring's records, and the number of errors in them.
 #[derive(Drop)]
 pub(crate) struct SeenRecords {
     workers: Vec<SeenWorker>,
     /// The position of the next record.
     pub(crate) position: u64,
-    /// How many discarded records were passed over.
+    /// How many discarded records were skipped.
     pub(crate) skipped: u64,
     pub(crate) wrong: u64,
 }
 
 impl SeenRecords {
-    /// Nothing, of so many workers.
+    /// Returns the initial state for `workers` workers.
     pub(crate) fn new(alloc: Global, workers: u32) -> Result<SeenRecords, AllocError> {
         let none = SeenWorker { next: 0, events: 0 };
         Ok(SeenRecords {
@@ -36,7 +36,7 @@ impl SeenRecords {
         })
     }
 
-    /// How many events of a worker were seen.
+    /// Returns how many events of a worker were seen.
     pub(crate) fn events_of(&self, worker: u32) -> u64 {
         match self.workers.get(worker as usize) {
             Some(seen) => seen.events,
@@ -44,7 +44,7 @@ impl SeenRecords {
         }
     }
 
-    /// Looks at the next record.
+    /// Checks the next record.
     pub(crate) fn look(&mut self, item: &Item<'_>) {
         let (pos, len, is_right) = match item {
             Item::Event(event) => (event.pos, event.bytes.len(), self.is_next(event)),
@@ -58,14 +58,14 @@ impl SeenRecords {
         self.position = pos.wrapping_add(span);
     }
 
-    /// Notes whether something holds that is to hold.
+    /// Counts an error unless the condition holds.
     pub(crate) fn expect(&mut self, holds: bool) {
         if !holds {
             self.wrong = self.wrong.saturating_add(1);
         }
     }
 
-    // Whether the event comes behind its worker's last one, and has the bytes that the worker wrote.
+    // Returns whether the event follows its worker's last one, and has the bytes that the worker wrote.
     fn is_next(&mut self, event: &Event<'_>) -> bool {
         let is_next = match self.workers.get_mut(event.worker as usize) {
             Some(seen) => seen.goes_on(event.serial),
@@ -76,7 +76,7 @@ impl SeenRecords {
 }
 
 impl SeenWorker {
-    // Whether the serial is none that came before.
+    // Returns whether the serial is greater than all earlier ones.
     fn goes_on(&mut self, serial: u64) -> bool {
         let is_later = serial >= self.next;
         self.next = serial.wrapping_add(1);

@@ -1,6 +1,6 @@
 //! What seats and closed rings counted.
 
-/// What the seats and the consumers of some rings counted, and how many things were wrong.
+/// What the seats and the consumers of some rings counted, and the number of errors.
 #[derive(Clone, Copy)]
 pub(crate) struct SoakSums {
     pub(crate) made: u64,
@@ -11,13 +11,13 @@ pub(crate) struct SoakSums {
     pub(crate) skipped: u64,
     /// How many chapters were handed out.
     pub(crate) chapters: u64,
-    /// How many entries the chapters had that were bound.
+    /// How many entries the bound chapters had.
     pub(crate) bound: u64,
     pub(crate) wrong: u64,
 }
 
 impl SoakSums {
-    /// Of no ring.
+    /// Returns the sums of no ring.
     pub(crate) fn none() -> SoakSums {
         SoakSums {
             made: 0,
@@ -32,7 +32,7 @@ impl SoakSums {
         }
     }
 
-    /// Adds those of other rings.
+    /// Adds the sums of other rings.
     pub(crate) fn add(&mut self, other: &SoakSums) {
         self.made = self.made.wrapping_add(other.made);
         self.refused = self.refused.wrapping_add(other.refused);
@@ -45,7 +45,7 @@ impl SoakSums {
         self.wrong = self.wrong.saturating_add(other.wrong);
     }
 
-    /// Notes whether something holds that is to hold.
+    /// Counts an error unless the condition holds.
     pub(crate) fn expect(&mut self, holds: bool) {
         if !holds {
             self.wrong = self.wrong.saturating_add(1);

@@ -1,4 +1,4 @@
-//! A worker, which makes records by drawn numbers.
+//! A worker, which makes records by pseudorandom numbers.
 
 ghost use Rattle.std.specs.Prelude.{◌≡◌, ◌<◌};
 ghost use Rattle.rb_ledger.specs.Seats.{IsSameSeat};
@@ -12,7 +12,7 @@ use rb_shared_ring::{Reservation, Seat, SharedRing, WaitBackoff};
 use std::alloc::Global;
 use std::sync::Wait;
 
-/// Makes a plan's steps.
+/// Makes the steps of a plan.
 #[derive(Clone, Copy)]
 pub(crate) struct Steps {
     pub(crate) alloc: Global,
@@ -31,7 +31,8 @@ impl Producer for Steps {
     }
 }
 
-// One step: an output, or a record that is reserved, written and submitted, or given up, or two records that are held at once.
+// Makes one step: an output, or a record that is reserved, written and submitted or discarded, or two records that are
+// held at once.
 fn step<R: Wait>(rt: &R, alloc: Global, ring: &SharedRing, seat: &mut Seat, kind: u32, number: u32)
     requires { seat.old.ring ≡ ring.now.ring }
     ensures { IsSameSeat seat.old seat.new }
@@ -47,7 +48,7 @@ fn step<R: Wait>(rt: &R, alloc: Global, ring: &SharedRing, seat: &mut Seat, kind
     }
 }
 
-// One length of sixteen is up to 1,023 bytes, the others are up to 63.
+// Returns a length: one of sixteen is up to 1,023 bytes, the others are up to 63.
 fn length_of(number: u32) -> u32
     ensures { result < 1024 }
 {
@@ -58,7 +59,7 @@ fn length_of(number: u32) -> u32
     }
 }
 
-// Outputs one record, however often it finds no room.
+// Outputs one record, and retries until there is room.
 fn output_one<R: Wait>(
     rt: &R,
     alloc: Global,
@@ -75,7 +76,7 @@ fn output_one<R: Wait>(
     output(rt, ring, seat, record, u64::from(flags % 4));
 }
 
-// Reserves a record, however often there is no room.
+// Reserves a record, and retries until there is room.
 fn reserved<R: Wait>(
     rt: &R,
     alloc: Global,
@@ -96,7 +97,7 @@ fn reserved<R: Wait>(
     unreachable!()
 }
 
-// Reserves a record, where there is room.
+// Reserves a record if there is room.
 fn reserved_at_once<R: Wait>(
     rt: &R,
     alloc: Global,
@@ -113,7 +114,7 @@ fn reserved_at_once<R: Wait>(
     }
 }
 
-// Reserves a record, and where there is room a second one, which it finishes first.
+// Reserves a record, and if there is room a second one, which it finishes first.
 fn hold_two<R: Wait>(rt: &R, alloc: Global, ring: &SharedRing, seat: &mut Seat, n: u32, choice: u32)
     requires { seat.old.ring ≡ ring.now.ring }
     ensures { IsSameSeat seat.old seat.new }
@@ -125,7 +126,7 @@ fn hold_two<R: Wait>(rt: &R, alloc: Global, ring: &SharedRing, seat: &mut Seat, 
     finish(rt, ring, seat, first, choice);
 }
 
-// Gives one record of four up, and writes and submits the others. One that were handed back would stay busy.
+// Discards one of four records, and writes and submits the others. A record that is handed back would stay busy.
 fn finish<R: Wait>(rt: &R, ring: &SharedRing, seat: &mut Seat, record: Reservation, choice: u32)
     requires { seat.old.ring ≡ ring.now.ring }
     ensures { IsSameSeat seat.old seat.new }
@@ -139,7 +140,7 @@ fn finish<R: Wait>(rt: &R, ring: &SharedRing, seat: &mut Seat, record: Reservati
     }
 }
 
-// The record with its bytes.
+// Returns the record after its bytes were written.
 fn written(mut record: Reservation) -> Reservation {
     let (worker, serial) = (record.worker(), record.serial());
     write(record.bytes_mut(), worker, serial);

@@ -12,7 +12,7 @@ use std::alloc::Global;
 use std::io::Print;
 use std::sync::Wait;
 
-/// The ring is not closed with one of its two seats, and is with both. The list has room for them.
+/// Closes the ring: it is not closed with one of its two seats, and is closed with both. The list has room for them.
 pub(crate) fn close<R: Wait + Print>(
     rt: &R,
     opened: OpenRing,
@@ -32,7 +32,7 @@ pub(crate) fn close<R: Wait + Print>(
     ring.close(rt, seats, consumer).ok()
 }
 
-// The ring and its seats, which is not closed with one alone.
+// Checks that the ring is not closed with one seat alone, and returns the ring and its seats.
 fn not_closed<R: Wait>(rt: &R, opened: OpenRing, zero: Seat) -> Option<NotAll>
     requires zero { zero.ring ≡ opened.ring.ring }
     requires consumer { opened.consumer.ring ≡ opened.ring.ring }
@@ -48,7 +48,7 @@ fn not_closed<R: Wait>(rt: &R, opened: OpenRing, zero: Seat) -> Option<NotAll>
     opened.ring.close(rt, seats, opened.consumer).err()
 }
 
-/// Binds the chapters to one history, and prints how its records add up.
+/// Binds the chapters to one history, and prints the counts of its records.
 pub(crate) fn bind<R: Print>(
     rt: &R,
     alloc: Global,
@@ -75,7 +75,7 @@ pub(crate) fn bind<R: Print>(
     Err(TrialFault::Twice("bind"))
 }
 
-// What the closed ring came to, and how many chapters there are beside its last.
+// Prints the state of the closed ring, and how many chapters there are besides its last.
 fn tell_closing<R: Print>(rt: &R, call: &str, closing: &Closing, chapters: usize) {
     let (producer, consumer) = (closing.producer(), closing.consumer());
     let number = closing.chapter().number();
@@ -84,7 +84,7 @@ fn tell_closing<R: Print>(rt: &R, call: &str, closing: &Closing, chapters: usize
     );
 }
 
-// How the granted records add up.
+// Prints the counts of the granted records.
 fn tell_sum<R: Print>(rt: &R, counts: Counts) {
     let Counts {
         made,

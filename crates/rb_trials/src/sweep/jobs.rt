@@ -18,10 +18,10 @@ use std::io::Print;
 use std::sync::Wait;
 use std::thread::Threads;
 
-// The room of the chapters: all of the jobs have some in one.
+// The room of the chapters: enough for all of the jobs in one chapter.
 const JOBS_ROOM: u32 = 64;
 
-/// Runs three jobs of each of two workers over one ring, once more where there was no memory for one.
+/// Runs three jobs of each of two workers over one ring, and repeats the run if an allocation failed.
 pub(crate) fn run<R: Threads + Wait + Sync + Print>(
     rt: &R,
     alloc: Global,
@@ -60,7 +60,7 @@ fn run_over<R: Threads + Wait + Sync + Print>(
     Ok(())
 }
 
-// What each job ended with.
+// Prints the result of each job.
 fn tell_answers<R: Print>(rt: &R, answers: &[Result<u64, RunFault>]) {
     for answer in answers {
         match answer {
@@ -74,7 +74,7 @@ fn tell_answer<R: Print, T: Display>(rt: &R, answer: &T) {
     let _ = println!(rt; "job: {answer}");
 }
 
-// How many records found no memory that no entry tells of, and where each ring stands at its end.
+// Prints how many records failed to be allocated without an entry that explains it, and the final state of each ring.
 fn tell_report<R: Print>(rt: &R, report: &JobsReport<NullSink>) {
     let (unlogged, strays) = (report.unlogged, report.strays);
     let _ = println!(rt; "unlogged {unlogged} strays {strays}");
@@ -84,7 +84,7 @@ fn tell_report<R: Print>(rt: &R, report: &JobsReport<NullSink>) {
     }
 }
 
-// Runs the jobs until there was memory.
+// Runs the jobs until no allocation fails.
 fn report<R: Threads + Wait + Sync + Print>(
     rt: &R,
     alloc: Global,
@@ -105,7 +105,8 @@ fn report<R: Threads + Wait + Sync + Print>(
     Err(TrialFault::Twice("jobs"))
 }
 
-// What the seats of the rings made, and what they left behind: records that no worker ended, and those that were not taken.
+// Prints what the seats of the rings made, and what they left: records that no worker submitted or discarded, and those
+// that were not taken.
 fn tell_all<R: Print>(rt: &R, call: &str, rings: &[Opened<NullSink>]) {
     for one in rings {
         let _ = print!(rt; "{call}: seats {}", one.seats.len());
@@ -121,7 +122,7 @@ fn tell_all<R: Print>(rt: &R, call: &str, rings: &[Opened<NullSink>]) {
     }
 }
 
-// A ring of 4,096 bytes with two workers.
+// Returns a ring of 4,096 bytes with two workers.
 fn opened<R: Wait + Print>(rt: &R, alloc: Global) -> Result<Opened<NullSink>, TrialFault>
     ensures { IfOk result (IsOpened (λ s. s.position) 2) }
 {
@@ -136,7 +137,7 @@ fn opened<R: Wait + Print>(rt: &R, alloc: Global) -> Result<Opened<NullSink>, Tr
     Err(TrialFault::Twice("open"))
 }
 
-// A list of one ring.
+// Returns a list of one ring.
 fn one_ring<R: Wait + Print>(rt: &R, alloc: Global) -> Result<Vec<Opened<NullSink>>, TrialFault>
     ensures { IfOk result (λ rings. AreOpened (λ s. s.position) rings.items) }
 {

@@ -1,4 +1,4 @@
-//! The ring of one thread that keeps its whole history, and takes memory for it as it grows.
+//! The ring of one thread that keeps its whole history, and allocates for it as it grows.
 
 ghost use Rattle.std.specs.Prelude.{◌≡◌, IfOk};
 
@@ -27,7 +27,7 @@ impl Stands for PlainRing {
     }
 }
 
-/// Records are reserved and submitted, and others are output, in turn; then all are taken.
+/// Reserves and submits records, and outputs others, in turn; then takes them all.
 pub(crate) fn run<R: Print>(rt: &R, alloc: Global) -> Result<(), TrialFault> {
     let mut ring = opened(rt, alloc)?;
     tell(rt, "open", &ring);
@@ -61,7 +61,7 @@ fn submit<R: Print>(rt: &R, alloc: Global, ring: &mut PlainRing) -> Result<(), T
     Ok(())
 }
 
-// A ring of 4,096 bytes with one worker.
+// Returns a ring of 4,096 bytes with one worker.
 fn opened<R: Print>(rt: &R, alloc: Global) -> Result<PlainRing, TrialFault>
     ensures { IfOk result (λ ring. ring.setup.workers ≡ 1) }
 {
@@ -111,7 +111,7 @@ fn output<R: Print>(rt: &R, alloc: Global, ring: &mut PlainRing) -> Result<(), T
     Err(TrialFault::Twice("output"))
 }
 
-// The sheet as it was, from a call that found no memory.
+// Returns the sheet, unchanged, from a call whose allocation failed.
 fn handed_back(call: &'static str, fault: NoGrant, sheet: Sheet) -> Result<Sheet, TrialFault>
     ensures { IfOk result (λ back. back ≡ sheet) }
 {

@@ -1,11 +1,11 @@
-//! A call that found no memory, and is made again.
+//! A call whose allocation failed, and which is repeated.
 
 use std::io::Print;
 
-/// How often each call is made at most, since one request is refused at most.
+/// The maximal number of tries of each call, since at most one allocation fails.
 pub(crate) const TRIES: u32 = 2;
 
-/// Prints the line of a call that found no memory, and was to make something new.
+/// Prints the line of a call whose allocation failed and that was to make something new.
 pub(crate) fn tell_memory<R: Print>(rt: &R, call: &str) {
     let _ = println!(rt; "{call} memory");
 }

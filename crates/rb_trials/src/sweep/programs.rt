@@ -7,7 +7,7 @@ use rb_verifier::{Refusal, Verified, verify};
 use std::alloc::Global;
 use std::io::Print;
 
-/// Reserves a record of 24 bytes, and ends with 0 where it was null. Else it writes 42 into it and submits it, and ends with 1.
+/// Reserves a record of 24 bytes, and returns 0 if it is null. Otherwise writes 42 into it, submits it, and returns 1.
 pub(crate) const RESERVE: [u8; 96] = [
     0x18, 0x51, 0, 0, 0, 0, 0, 0, 0, 0, 0, 0, 0, 0, 0, 0, // r1 = map_by_idx(0)
     0xb7, 0x02, 0, 0, 24, 0, 0, 0, // r2 = 24
@@ -22,7 +22,7 @@ pub(crate) const RESERVE: [u8; 96] = [
     0x95, 0, 0, 0, 0, 0, 0, 0, // exit
 ];
 
-/// Outputs 24 bytes of its stack, and ends with the helper's answer.
+/// Outputs 24 bytes of its stack, and returns the helper's answer.
 pub(crate) const OUTPUT: [u8; 88] = [
     0x7a, 0x0a, 0xe8, 0xff, 1, 0, 0, 0, // *(u64 *)(r10 - 24) = 1
     0x7a, 0x0a, 0xf0, 0xff, 2, 0, 0, 0, // *(u64 *)(r10 - 16) = 2
@@ -36,7 +36,7 @@ pub(crate) const OUTPUT: [u8; 88] = [
     0x95, 0, 0, 0, 0, 0, 0, 0, // exit
 ];
 
-/// A program, verified for no context and one ring.
+/// Returns a program, verified for no context and one ring.
 pub(crate) fn verified<R: Print>(
     rt: &R,
     alloc: Global,

@@ -1,4 +1,5 @@
-//! The ring of one thread that keeps a chapter. Of its calls only `new` takes memory; its callers take some for sheets and chapters.
+//! The ring of one thread that keeps a chapter. Of its calls only `new` allocates; its callers allocate sheets and
+//! chapters.
 
 ghost use Rattle.std.specs.Prelude.{◌≡◌, IfOk};
 
@@ -27,7 +28,7 @@ impl Stands for RingState {
     }
 }
 
-/// A record is output and taken, the ring's chapter is handed out, and the record's sheet is renewed.
+/// Outputs and takes a record, hands out the ring's chapter, and renews the record's sheet.
 pub(crate) fn run<R: Print>(rt: &R, alloc: Global) -> Result<(), TrialFault> {
     let mut ring = opened(rt, alloc)?;
     pass_and_hand_out(rt, alloc, &mut ring)
@@ -45,7 +46,7 @@ fn pass_and_hand_out<R: Print>(
     renew(rt, sheet)
 }
 
-// A ring of 4,096 bytes with one worker.
+// Returns a ring of 4,096 bytes with one worker.
 fn opened<R: Print>(rt: &R, alloc: Global) -> Result<RingState, TrialFault>
     ensures { IfOk result (λ ring. ring.state.ring.chapter.opening.setup.workers ≡ 1) }
 {
@@ -82,7 +83,7 @@ fn output_and_take<R: Print>(
     }
 }
 
-// Has the ring go on in another chapter.
+// Lets the ring continue in another chapter.
 fn hand_out<R: Print>(rt: &R, alloc: Global, ring: &mut RingState) -> Result<(), TrialFault> {
     let empty = empty_chapter(rt, alloc, ring)?;
     if ring.hand_out(empty).is_err() {
@@ -92,7 +93,7 @@ fn hand_out<R: Print>(rt: &R, alloc: Global, ring: &mut RingState) -> Result<(),
     Ok(())
 }
 
-// An empty chapter for one worker, made beside the ring.
+// Returns an empty chapter for one worker, allocated while the ring exists.
 fn empty_chapter<R: Print>(rt: &R, alloc: Global, ring: &RingState) -> Result<Chapter, TrialFault> {
     for _ in 0..TRIES {
         if let Ok(chapter) = Chapter::new(alloc, ROOM, 1) {

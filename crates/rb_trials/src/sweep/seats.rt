@@ -1,4 +1,4 @@
-//! A worker's seat at the ring that threads share. Of the calls only `open` takes memory; callers take some for sheets.
+//! A worker's seat at the ring that threads share. Of the calls only `open` allocates; callers allocate sheets.
 
 ghost use Rattle.std.specs.Prelude.{◌≡◌};
 ghost use Rattle.rb_ledger.specs.Seats.{IsSameSeat};
@@ -14,7 +14,7 @@ use std::alloc::Global;
 use std::io::Print;
 use std::sync::Wait;
 
-/// A worker outputs a record, which is taken, and its sheet is renewed.
+/// Outputs a record with a worker's seat, takes it, and renews its sheet.
 pub(crate) fn run<R: Wait + Print>(rt: &R, alloc: Global) -> Result<(), TrialFault> {
     let mut open = opened(rt, alloc)?;
     let Some(mut seat) = open.seats.pop() else {
@@ -50,7 +50,7 @@ fn output_and_take<R: Wait + Print>(
     }
 }
 
-// A long sheet, made beside the ring.
+// Returns a long sheet, allocated while the ring exists.
 fn long_sheet<R: Wait + Print>(
     rt: &R,
     alloc: Global,
@@ -70,7 +70,7 @@ fn long_sheet<R: Wait + Print>(
     }
 }
 
-// Prints what the seat counted, and where its ring stands by an audit.
+// Prints what the seat counted, and the state of its ring by an audit.
 fn tell<R: Wait + Print>(rt: &R, call: &str, ring: &SharedRing, seat: &mut Seat)
     requires { seat.old.ring ≡ ring.now.ring }
     ensures { IsSameSeat seat.old seat.new }

@@ -18,8 +18,8 @@ use std::alloc::Global;
 use std::io::Print;
 use std::sync::Wait;
 
-/// Each of two workers outputs a record of eight bytes, the chapter is handed out, one record is taken, and the ring is closed, with one of
-/// the two seats and then with both; then its chapters are bound.
+/// Outputs a record of eight bytes with each of two workers' seats, hands out the chapter, takes one record, and closes
+/// the ring, with one of the two seats and then with both; then binds its chapters.
 pub(crate) fn run<R: Wait + Print>(rt: &R, alloc: Global) -> Result<(), TrialFault> {
     let mut open = opened(rt, alloc)?;
     let Some(one) = open.seats.pop() else {
@@ -31,7 +31,7 @@ pub(crate) fn run<R: Wait + Print>(rt: &R, alloc: Global) -> Result<(), TrialFau
     run_over(rt, alloc, open, zero, one)
 }
 
-// The calls over a ring, whose list has room for the two seats.
+// Makes the calls over a ring; the list has room for the two seats.
 fn run_over<R: Wait + Print>(
     rt: &R,
     alloc: Global,
@@ -58,7 +58,7 @@ fn run_over<R: Wait + Print>(
     }
 }
 
-// The outputs and the take, with the chapter that was handed out between them.
+// Makes the outputs and the take, and hands out the chapter between them.
 fn send_and_take<R: Wait + Print>(
     rt: &R,
     alloc: Global,
@@ -80,7 +80,7 @@ fn send_and_take<R: Wait + Print>(
     Ok(chapters)
 }
 
-// Takes a record, and prints whose it was.
+// Takes a record, and prints its worker.
 fn take<R: Wait + Print>(
     rt: &R,
     ring: &SharedRing,
@@ -98,7 +98,7 @@ fn take<R: Wait + Print>(
     }
 }
 
-/// A shared ring of 4,096 bytes with two workers.
+/// Returns a shared ring of 4,096 bytes with two workers.
 pub(crate) fn opened<R: Wait + Print>(rt: &R, alloc: Global) -> Result<OpenRing, TrialFault>
     ensures tag { IfOk result (λ o. o.ring.tag ≡ 7) }
     ensures seats { IfOk result (λ o. o.seats.items ≡ fresh_seats 7 o.ring.ring 8 (fresh_book 4096 0 2) 0 2) }
@@ -114,7 +114,7 @@ pub(crate) fn opened<R: Wait + Print>(rt: &R, alloc: Global) -> Result<OpenRing,
     Err(TrialFault::Twice("open"))
 }
 
-// Outputs eight bytes, whose sheet takes no memory.
+// Outputs eight bytes, whose sheet needs no allocation.
 fn output<R: Wait + Print>(
     rt: &R,
     alloc: Global,
@@ -134,7 +134,7 @@ fn output<R: Wait + Print>(
     Ok(())
 }
 
-// The ring's first chapter, alone in a list.
+// Returns a list of the ring's first chapter.
 fn handed_out<R: Wait + Print>(
     rt: &R,
     alloc: Global,
@@ -159,7 +159,7 @@ fn handed_out<R: Wait + Print>(
     }
 }
 
-// An empty chapter for two workers, alone in a list.
+// Returns a list of an empty chapter for two workers.
 fn empty_chapter<R: Print>(rt: &R, alloc: Global) -> Result<Vec<Chapter>, TrialFault> {
     for _ in 0..TRIES {
         if let Ok(chapter) = Chapter::new(alloc, ROOM, 2)

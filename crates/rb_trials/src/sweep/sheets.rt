@@ -1,4 +1,4 @@
-//! Sheets, as a caller makes them.
+//! Sheets (byte buffers), as a caller makes them.
 
 ghost use Rattle.std.specs.Prelude.{◌≡◌, IfSome, length};
 
@@ -8,16 +8,16 @@ use rb_lend::{Lent, Sheet};
 use std::alloc::Global;
 use std::io::Print;
 
-/// How many bytes a long sheet has. Up to 16 would lie in the sheet itself, and take no memory.
+/// The length of a long sheet. Up to 16 bytes would be stored in the sheet itself, without an allocation.
 pub(crate) const LONG: u32 = 24;
 
-// How many bytes a long sheet has once it was renewed.
+// The length of a long sheet after it was renewed.
 const LONGER: u32 = 32;
 
 // The byte that fills each sheet.
 const FILL: u8 = 42;
 
-/// A sheet of `n` bytes that are all 42, where there is memory for it.
+/// Returns a sheet of `n` bytes that are all 42, unless the allocation fails.
 pub(crate) fn filled(alloc: Global, n: u32) -> Option<Sheet>
     ensures { IfSome result (λ sheet. length sheet ≡ n) }
 {
@@ -28,7 +28,7 @@ pub(crate) fn filled(alloc: Global, n: u32) -> Option<Sheet>
     Some(sheet)
 }
 
-/// Whether the sheet is one that `filled` makes with `n` bytes.
+/// Returns whether the sheet is one that `filled` makes with `n` bytes.
 pub(crate) fn is_filled(sheet: &Sheet, n: u32) -> bool {
     sheet.len() == n && sheet.bytes().iter().all(|byte| *byte == FILL)
 }
@@ -50,7 +50,7 @@ pub(crate) fn renew<R: Print>(rt: &R, sheet: Sheet) -> Result<(), TrialFault> {
     Err(TrialFault::Twice("renew"))
 }
 
-// How many bytes the sheet has, and their sum.
+// Prints the sheet's length, and the sum of its bytes.
 fn tell_sheet<R: Print>(rt: &R, call: &str, sheet: &Sheet) {
     let mut sum: u64 = 0;
     for byte in sheet.bytes() {

@@ -1,4 +1,4 @@
-//! Where a ring of one thread stands.
+//! Snapshots of a ring of one thread.
 
 ghost use Rattle.std.specs.Prelude.{◌≡◌, IfOk, length};
 
@@ -10,7 +10,8 @@ use rb_lend::Sheet;
 use std::alloc::Global;
 use std::io::Print;
 
-/// Where a ring stands: how many chapters of its history were handed out, how many entries stand behind those, its positions and its counts.
+/// A snapshot of a ring: how many chapters of its history were handed out, how many entries follow those, its positions
+/// and its counts.
 pub(crate) struct RingStanding {
     pub(crate) chapters: u64,
     pub(crate) entries: u64,
@@ -21,11 +22,11 @@ pub(crate) struct RingStanding {
 
 /// A ring of one thread.
 pub(crate) trait Stands {
-    /// Where it stands.
+    /// Returns a snapshot.
     fn standing(&self) -> RingStanding;
 }
 
-/// Prints where a ring stands after a call.
+/// Prints a snapshot of a ring after a call.
 pub(crate) fn tell<R: Print, T: Stands>(rt: &R, call: &str, ring: &T) {
     let RingStanding {
         chapters,
@@ -55,7 +56,7 @@ pub(crate) fn tell_counts<R: Print>(rt: &R, counts: Counts) {
     );
 }
 
-/// A long sheet, made beside a ring.
+/// Returns a long sheet, allocated while a ring exists.
 pub(crate) fn sheet_beside<R: Print, T: Stands>(
     rt: &R,
     alloc: Global,

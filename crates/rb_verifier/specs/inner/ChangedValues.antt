@@ -1,4 +1,4 @@
--- What each change tells of one value.
+-- How each change affects one abstract value.
 use Rattle.rb_verifier.specs.declared.value.Abs.{Abs}
 use Rattle.rb_verifier.specs.declared.reference_changes.Change.{Change}
 use Rattle.rb_verifier.specs.declared.reference_changes.Change.TheVariants.{IsNull, IsThere, GivenBack}
@@ -9,7 +9,7 @@ after_change (IsNull id) = if_null id
 after_change (IsThere id) = if_there id
 after_change (GivenBack id) = if_given_back id
 
--- and of one place
+-- how each change affects one place
 abbrev pub place_after : Change → Abs → Abs
 place_after (IsNull id) = place_if_null id
 place_after (IsThere id) = if_there id

@@ -1,4 +1,4 @@
--- Where on the stack an access lies, and what a store leaves of the places.
+-- Where on the stack an access lies, and how a store changes the places.
 use Rattle.std.specs.Prelude.{◌≡◌, ◌⊎◌, ℕ, ◌+◌, ◌≤◌, List, Option, Some, None, Result, Ok, Err}
 use Rattle.rb_verifier.specs.declared.rule.Rule.{Rule}
 use Rattle.rb_verifier.specs.declared.rule.StepFault.{StepFault}
@@ -16,7 +16,8 @@ abbrev pub IsPlaceOrNone : Option ℕ → Type 0
 IsPlaceOrNone None = Unit {0}
 IsPlaceOrNone (Some place) = place ≤ 63
 
--- a store leaves these places, or breaks a rule; or there was no memory, where a place may keep a pointer before or after it
+-- a store leaves these places, or breaks a rule; or an allocation failed, which is possible only if a place may hold a
+-- pointer before or after the store
 abbrev pub IsPlaced : Result (Unit {0}) StepFault → List Abs → Result (List Abs) Rule → Type 0
 IsPlaced (Ok done) places answer = answer ≡ Ok places
 IsPlaced (Err (fault.Rule broken)) places answer = answer ≡ Err broken

@@ -1,4 +1,4 @@
--- The join of what is known of one value: the least that is above both.
+-- The join of abstract values: the least value above both.
 use Rattle.rb_verifier.specs.declared.value.Abs.{Abs}
 use Rattle.rb_verifier.specs.AbstractValues.{BelowValue}
 

@@ -10,7 +10,7 @@ use Rattle.rb_world.specs.declared.world_record.WorldRecord.{WorldRecord}
 use Rattle.rb_world.specs.WorldValue.{KeptRing, WorldValue, no_kept_ring, ring_at, whole_world, world_ring}
 use Rattle.rb_world.specs.inner.FittingWorlds.{IsSoundWorld}
 
--- which hand of which worker at which ring a record is said to be out in, and its numbers
+-- the ring, worker and hand in which a record is said to be out, and the record's numbers
 pub record Mark : Type 0 where
   pub ring : ℕ
   pub worker : ℕ
@@ -31,22 +31,22 @@ hands_shown s = s.ring.state.hands
 abbrev pub books_of : List KeptRing → List HandBook
 books_of rings = map hands_shown rings
 
--- it is out there
+-- the record is out there
 abbrev pub IsOutIn : List HandBook → Mark → Type 0
 IsOutIn books m = hand_at (slice_index_or books m.ring []) m.worker m.hand ≡ Some m.out
 
--- each record that is held is so
+-- every record that is held satisfies P
 abbrev pub AllHeld : (Mark → Type 0) → List (ℕ × WorldRecord) → Type 0
 AllHeld P records = (id : ℕ) (x : WorldRecord) → held_record id records ≡ Some x → P (mark_of x)
 
 abbrev pub AreInHand : List HandBook → List (ℕ × WorldRecord) → Type 0
 AreInHand books records = AllHeld (IsOutIn books) records
 
--- it was held before
+-- the record was held before
 abbrev pub WasHeld : List (ℕ × WorldRecord) → Mark → Type 0
 WasHeld records m = (id : ℕ) × (x : WorldRecord) × (held_record id records ≡ Some x) × (mark_of x ≡ m)
 
--- what is held now was held before, or is out at the ring of this number
+-- every record that is now held was held before, or is out at the ring with this number
 abbrev pub HoldsOldOrOut : ℕ → HandBook → List (ℕ × WorldRecord) → List (ℕ × WorldRecord) → Type 0
 HoldsOldOrOut r book old new = AllHeld (λ m. WasHeld old m ⊎ ((m.ring ≡ r) × (hand_at book m.worker m.hand ≡ Some m.out))) new
 
@@ -55,11 +55,11 @@ HoldsEachOldOrOut books old new = AllHeld (λ m. WasHeld old m ⊎ IsOutIn books
 
 -- ---- what a turn leaves in hands
 
--- what was out in a hand is out in it
+-- what was out in a hand is still out in it
 abbrev pub StaysOut : HandBook → HandBook → Type 0
 StaysOut old new = (w h : ℕ) (o : OutRecord) → hand_at old w h ≡ Some o → hand_at new w h ≡ Some o
 
--- what was out in a hand, and is busy, is out in it
+-- what was out in a hand, and is still busy, is still out in it
 abbrev pub KeepsInHand : KeptRing → KeptRing → Type 0
 KeepsInHand old new =
     (w h : ℕ) (o : OutRecord) (n : ℕ) → hand_at (hands_shown old) w h ≡ Some o → IsBusy (world_ring new).ring.history o.pos w o.serial n
@@ -70,15 +70,16 @@ KeepsEachInHand old new = (r : ℕ) → r < length new → KeepsInHand (slice_in
 
 -- ---- a world
 
--- the records of each worker are out in its hands
+-- the records of every worker are out in its hands
 abbrev pub AllInHand : WorldValue → Type 0
 AllInHand v = (w : ℕ) (m : MachineState WorldRecord) → w < length v.machines → m ≡ slice_index_or v.machines w m → AreInHand (books_of v.rings) m.records
 
--- each ring's tag is its number
+-- every ring's tag is its number
 abbrev pub AreTagged : WorldValue → Type 0
 AreTagged v = (r : ℕ) → r < length v.rings → (ring_at v r).ring.tag ≡ r
 
--- turns led here from an opening of verified programs, what workers hold is out in their hands, and rings have their numbers
+-- the world was reached by turns from an opening of verified programs, the records that workers hold are out in their
+-- hands, and every ring's tag is its number
 pub record IsHeldWorld (v : WorldValue) : Type 0 where
   pub sound : IsSoundWorld (whole_world v)
   pub in_hand : AllInHand v

@@ -12,7 +12,7 @@ use Rattle.rb_world.specs.OpenedWorlds.{AreRings, HaveContexts, HaveRings, HaveR
 use Rattle.rb_world.specs.WorldRuns.{IsFirstUnknown}
 use Rattle.rb_world.specs.WorldValue.{WorldValue, IsThere}
 
--- want of memory is told only where the world may be opened
+-- `Memory` is returned only if the world may be opened
 abbrev pub IsOpenRefusal : List RingSetup → List WorkerSetup → WorldOpenFault → Type 0
 IsOpenRefusal rings workers fault.Ring = ¬ AreRings rings
 IsOpenRefusal rings workers fault.ContextLength = AreRings rings × ¬ HaveContexts workers
@@ -23,7 +23,7 @@ IsOpenRefusal rings workers fault.Chapter =
     AreRings rings × HaveContexts workers × HaveRings (length rings) workers × IsWorkerCount (length workers) × ¬ HaveRooms rings
 IsOpenRefusal rings workers fault.Memory = MayOpen rings workers
 
--- and only where all actors are there
+-- `Memory` is returned only if all actors exist
 abbrev pub IsRefusedRun : WorldValue → List Actor → WorldFault → Type 0
 IsRefusedRun v actors (UnknownActor place) = IsFirstUnknown v actors place
 IsRefusedRun v actors Memory = All (IsThere v) actors

@@ -1,4 +1,4 @@
--- What one machine and one ring do in a turn, as a turn of the world has it.
+-- What one machine and one ring do in a turn, in terms of a turn of the world.
 use Rattle.std.specs.Prelude.{ℕ, ◌≡◌, ◌<◌, List, ◌++◌, Some, length, slice_set}
 use Rattle.std.specs.List.{slice_index_or}
 use Rattle.rb_semantics.specs.declared.pending_call.PendingCall.{PendingCall}
@@ -20,7 +20,7 @@ use Rattle.rb_world.specs.TurnsDone.{TellsEvent, IsWholeTurn, HandsChapterOut}
 
 -- ---- a take
 
--- what one take did to a ring and to what was taken of it
+-- the effect of one take on a ring and on what was taken from it
 abbrev pub DoesTake : TurnEvent → WorldRing → WorldRing → Type 0
 DoesTake (Took found) old new = Takes old.ring new.ring found × StandsFor new.ring × (new.taken ≡ old.taken ++ taken_by found)
 DoesTake NoMemory old new = new ≡ old
@@ -31,7 +31,7 @@ TakesOnce old done new = (event : TurnEvent) × TellsEvent done event × DoesTak
 
 -- ---- a keeper's turn
 
--- what a keeper did to a ring
+-- the effect of a keeper's turn on a ring
 abbrev pub KeepsChapter : KeptRing → TurnDone → KeptRing → Type 0
 KeepsChapter old (turn.Chapter n) new = HandsChapterOut n old new
 KeepsChapter old turn.Memory new = new ≡ old
@@ -39,13 +39,13 @@ KeepsChapter old done new = ⊥
 
 -- ---- a worker's turn
 
--- a machine's turn is the turn of a worker, wherever the machine stands as that worker's
+-- a machine's turn is the worker's turn, in any list of machines in which it has that worker's index
 abbrev pub IsWorkerTurn : ℕ → MachineState WorldRecord → List WorldRing → TurnDone → MachineState WorldRecord → List WorldRing → Type 0
 IsWorkerTurn w old rings done new rings' =
     (machines : List (MachineState WorldRecord)) → w < length machines → old ≡ slice_index_or machines w old
     → IsWholeTurn (Worker w) (record { rings = rings; machines = machines }) done (record { rings = rings'; machines = slice_set machines w new })
 
--- a machine that waited got an answer of the kind, goes on, and holds these records
+-- a waiting machine got an answer of the right kind, continues, and holds these records
 abbrev pub GoesOnWith : PendingCall → HelperAnswer → HeldRecords → MachineState WorldRecord → MachineState WorldRecord → Type 0
 GoesOnWith kind answer held old new = worker_of new ≡ worker_after (resume kind answer old.state) (record (worker_of old) { held = held; status = Running })
 
@@ -59,7 +59,7 @@ AnswersOutput w flags m s m' s' =
     (bytes : List ℕ) → m.output ≡ Some bytes
     → (outcome : RecordOutcome) × WorkerOutputs w bytes flags outcome s s' × GoesOnWith asked.Output (answer_to_output outcome) (held_by m) m m'
 
--- a record was given back, by a submit or a discard, and taken
+-- a record was submitted or discarded, and the ring took it
 abbrev pub AnswersGivenBack : GivingBack → WorldRecord → MachineState WorldRecord → WorldRing → MachineState WorldRecord → WorldRing → Type 0
 AnswersGivenBack gives owned m s m' s' = gives owned.reservation.granted Taken s s' × GoesOnWith asked.GiveBack Taken (held_by m) m m'
 

@@ -7,7 +7,7 @@ use Rattle.rb_cost.specs.Cost.{no_ring_cost}
 use Rattle.rb_cost.specs.CostLines.{front_text, ring_text, chosen_text, rings_text}
 use Rattle.rb_cost.proofs.cost_lines.cost_text.Goals as goal
 
--- two more pieces behind what stands behind the front
+-- two more pieces after what follows the front
 two_more : (front rest before between after one other : List ℕ) → before ≡ front ++ rest → between ≡ before ++ one → after ≡ between ++ other → after ≡ front ++ ((rest ++ one) ++ other)
 two_more front rest before between after one other was then is =
     is ∙ (ap (λ x. x ++ other) (then ∙ (ap (λ x. x ++ one) was ∙ append_assoc front rest one)) ∙ append_assoc front (rest ++ one) other)

@@ -8,7 +8,7 @@ use Rattle.rb_cost.specs.Cost.{IsRingCost, no_ring_cost}
 use Rattle.rb_cost.proofs.Agreeing.{most_same, total-steps}
 use Rattle.rb_cost.proofs.costing.cost_under.Goals as goal
 
--- what holds of each place of a list, and of one more element, holds of each place of the longer list
+-- what holds for each index of a list, and for one more element, holds for each index of the longer list
 each_pushed : {X : Type 0} (P : ℕ → X → Type 0) (xs : List X) (y d : X) (n : ℕ) → length xs ≡ n → ((k : ℕ) → k < n → P k (slice_index_or xs k d)) → P n y → (k : ℕ) → k < n + 1 → P k (slice_index_or (xs ++ y ∷ []) k d)
 each_pushed P xs y d n count each here k lt = ⊎_elim
     (λ before. let inside : k < length xs = omega arith in subst (P k) (sym (get_or_append_left xs (y ∷ []) d k inside)) (each k before))

@@ -11,7 +11,7 @@ use Rattle.rb_explain.specs.Assembly.{assembly_of}
 use Rattle.rb_explain.specs.AssemblyParts.{register_text, ring_text}
 use Rattle.rb_explain.proofs.forms.write_load.Goals as goal
 
--- the text of a ring that is loaded, in the order in which it is written
+-- the text of a ring load, in the order in which it is written
 ring_loaded : (insn : Insn) (dst : Reg) (number : ℕ) (shown : Register) → insn ≡ LoadRing dst number → shown ≡ record { width = W64; reg = dst }
     → register_text shown.width shown.reg ++ (codes " = " ++ ring_text number) ≡ assembly_of insn
 ring_loaded insn dst number shown is shows =

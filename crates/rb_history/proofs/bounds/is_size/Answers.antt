@@ -3,7 +3,7 @@ use Rattle.std.proofs.lemmas.Bool.{cases_order, cases_lt, eq-eqb, eqb-true}
 use Rattle.std.proofs.lemmas.Nat.{pow_below, pow_pos, pow-add}
 use Rattle.rb_history.proofs.bounds.is_size.Goals as goal
 
--- the least power of two that is at least a power of two is that power
+-- the least power of two that is not less than a power of two is that power
 same-power : (p s j k : ℕ) → p ≡ 2 ^ j → s ≡ 2 ^ k → s ≤ p → p / 2 < max 1 s → p ≡ s
 same-power p s j k is too low high = elim (cases_order j k) [
   | inl e ↦ is ∙ ap (λ x. 2 ^ x) e ∙ sym too

@@ -2,7 +2,7 @@ use Rattle.std.proofs.Common.{◌-◌, ◌≤◌, length, take}
 use Rattle.std.specs.Io.KnownBytes.{Consumes}
 use Rattle.rb_io.proofs.device.read_full.Given as goal
 
--- what is counted was read
+-- the bytes that are counted were read
 abbrev pub invariant-loop-at : goal.invariant-loop-at
 invariant-loop-at g l = record {
   within : l.at ≤ length l.buf;

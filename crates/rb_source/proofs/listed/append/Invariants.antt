@@ -1,7 +1,7 @@
 use Rattle.std.proofs.Common.{◌≡◌, ◌-◌, ◌≤◌, ◌++◌, length, take, map}
 use Rattle.rb_source.proofs.listed.append.Given as goal
 
--- those that are counted were appended
+-- the counted contexts were appended
 abbrev pub invariant-loop-count : goal.invariant-loop-count
 invariant-loop-count l = record {
   within : l.count ≤ length l.contexts;

@@ -4,7 +4,7 @@ use Rattle.rb_history.specs.TapeBytes.{item_bytes, item_span}
 use Rattle.rb_tape.specs.Items.{item_of}
 use Rattle.rb_tape.proofs.piece.write_zeros.Given as goal
 
--- the record's bytes from `at` on went out, up to those that are counted
+-- the record's bytes from `at` on were written, up to the number that is counted
 abbrev pub invariant-loop-sent : goal.invariant-loop-sent
 invariant-loop-sent g l = record {
   more : l.at ≤ l.sent;

@@ -9,8 +9,8 @@ use Rattle.rb_tape_commands.specs.Input.{payload_events}
 use Rattle.rb_tape_commands.specs.Retries.{LeadsByCalls}
 use Rattle.rb_tape_commands.proofs.feed_command.feed_all.Given as goal
 
--- the payloads so far were read, and their tape was written; in the ring each was taken, and the positions are one; before each at most one
--- chapter was turned
+-- the payloads so far were read, and their tape was written; the ring's records were all taken, so both positions are
+-- equal; each payload switched chapters at most once
 abbrev pub invariant-loop-payload : goal.invariant-loop-payload
 invariant-loop-payload g l = record {
   size : l.tape.size ≡ l.size;

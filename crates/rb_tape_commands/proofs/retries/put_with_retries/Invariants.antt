@@ -6,7 +6,7 @@ use Rattle.rb_tape.specs.Items.{item_of}
 use Rattle.rb_tape_commands.specs.Retries.{LeadsByCalls}
 use Rattle.rb_tape_commands.proofs.retries.put_with_retries.Given as goal
 
--- the bytes of the record that are counted went out, and some are left
+-- the counted bytes of the record were written, and some are left
 abbrev pub invariant-loop-retries : goal.invariant-loop-retries
 invariant-loop-retries g l = record {
   size : l.tape.size ≡ l.fn.tape.size;

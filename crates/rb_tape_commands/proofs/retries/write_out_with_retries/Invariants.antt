@@ -3,7 +3,7 @@ use Rattle.std.specs.Io.KnownBytes.{Keeps}
 use Rattle.rb_tape_commands.specs.Retries.{FailsTimes}
 use Rattle.rb_tape_commands.proofs.retries.write_out_with_retries.Given as goal
 
--- each call that failed took a retry
+-- each failed call used one retry
 abbrev pub invariant-loop-retries : goal.invariant-loop-retries
 invariant-loop-retries g l = record {
   kept : Keeps (g.W.Write.contents l.fn.writer) (g.W.Write.contents l.writer);

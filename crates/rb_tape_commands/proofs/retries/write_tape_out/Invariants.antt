@@ -2,7 +2,7 @@ use Rattle.std.proofs.Common.{◌≡◌, ◌+◌}
 use Rattle.rb_tape_commands.specs.inner.WaitingTape.{IsSameTape}
 use Rattle.rb_tape_commands.proofs.retries.write_tape_out.Given as goal
 
--- each call that failed took a retry
+-- each failed call used one retry
 abbrev pub invariant-loop-retries : goal.invariant-loop-retries
 invariant-loop-retries g l = record {
   same : IsSameTape g.W.Write.contents l.fn.tape l.tape;

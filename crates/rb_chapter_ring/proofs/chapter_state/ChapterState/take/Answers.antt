@@ -105,14 +105,14 @@ invariant_of-self c =
       slots = subst (λ (d : Chapter). (n : ℕ) → n ≤ d.opening.setup.size / 8 → n ≤ d.room → n ≤ length after) (sym logged) (λ n within room. subst (λ x. n ≤ x) (sym long) (i.slots n within room));
     }
 
--- the ring behind a take of a waiting record, and what is taken
+-- the ring after a take of a waiting record, and what is taken
 abbrev ring_left : After-log_take → ChapterRing
 ring_left c = ring_of c.log_take.new.self (stored_of c.log_take.new.self (set c.self.inside.sheets.items c.slot_in-slot.result c.hand_out-sheet.new.self))
 
 abbrev event_taken : After-log_take → Taken
 event_taken c = Event c.in-Some.front.pos c.in-Some.front.worker c.in-Some.front.serial c.hand_out-sheet.result
 
--- such a take, by the parts of the ring before it
+-- such a take, in terms of the parts of the ring before it
 waited : (c : After-log_take) → TakesAs (ring_of c.self.inside.chapter (stored_of c.self.inside.chapter c.self.inside.sheets.items)) (ring_left c) (event_taken c)
 waited c =
     let a = c.self.inside in

@@ -5,7 +5,7 @@ use Rattle.rb_chapter_ring.specs.ManyTakes.{TakesEachInChapter}
 use Rattle.rb_chapter_ring.specs.inner.Ordinals.{KeepsNumbers}
 use Rattle.rb_chapter_ring.proofs.chapter_state.ChapterState.take_many.Given as goal
 
--- so many records were taken, and stand behind what was there
+-- the records that are counted were taken, and are in the list after its earlier elements
 abbrev pub invariant-loop-count : goal.invariant-loop-count
 invariant-loop-count l = record {
   same_chapter : IsSameChapter l.fn.self l.self;

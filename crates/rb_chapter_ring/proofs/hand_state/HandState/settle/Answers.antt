@@ -11,7 +11,7 @@ use Rattle.rb_chapter_ring.proofs.HandCalls.{in-hand-is-busy}
 use Rattle.rb_chapter_ring.proofs.StateSteps.{out-below, ends-from, ended-holds}
 use Rattle.rb_chapter_ring.proofs.hand_state.HandState.settle.Goals as goal
 
--- what is out, by the fields of the ring and of the reservation
+-- what is in the hand, by the fields of the ring and of the reservation
 out-inside : (v w : HandRing) (r s : HandGranted) → v ≡ w → r ≡ s → HasInHand w s.hand s.granted → HasInHand v r.hand r.granted
 out-inside v w r s ring same out = subst (λ (x : HandGranted). HasInHand v x.hand x.granted) (sym same) (subst (λ (x : HandRing). HasInHand x s.hand s.granted) (sym ring) out)
 

@@ -10,7 +10,7 @@ module _ (ring : Shared) (tag room : ℕ) (b : Book) where
   abbrev IsOwn : WorkerSeat → Type 0
   IsOwn s = s.ring ≡ ring.ring
 
-  -- fresh seats are those of their ring
+  -- fresh seats belong to their ring
   fresh-own : (first n : ℕ) → All IsOwn (fresh_seats tag ring.ring room b first n)
   fresh-own first zero = All-nil IsOwn
   fresh-own first (suc n) = All-cons IsOwn (fresh_seat tag ring.ring room first b) (fresh_seats tag ring.ring room b (first + 1) n) refl (fresh-own (first + 1) n)

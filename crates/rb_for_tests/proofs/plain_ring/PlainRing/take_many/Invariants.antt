@@ -2,7 +2,7 @@ use Rattle.std.proofs.Common.{◌≡◌, ◌++◌, length, vec_capacity}
 use Rattle.rb_history.specs.ManyTakes.{TakesEach, pushed}
 use Rattle.rb_for_tests.proofs.plain_ring.PlainRing.take_many.Given as goal
 
--- so many records were taken, and stand behind what was there
+-- this many records were taken, and appended to what was there
 abbrev pub invariant-loop-count : goal.invariant-loop-count
 invariant-loop-count l = record {
   same_ring : l.self.setup ≡ l.fn.self.setup;

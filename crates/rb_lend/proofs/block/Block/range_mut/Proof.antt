@@ -1,4 +1,5 @@
--- A part of the block's array is lent as a slice. The borrow checker shows no write-back clause for an array, so this proof walks the code by hand.
+-- A part of the block's array is lent as a slice. The borrow checker has no write-back clause for an array, so this
+-- proof steps through the code by hand.
 use mathlib.Core.Path.{◌≡◌, refl, sym, ap, ◌∙◌}
 use Prim.Native.Nat.{ℕ, zero, ◌+◌, ◌-◌, ◌^◌, ◌<◌, ◌≤◌}
 use native.Mathlib.Omega.{arith}
@@ -127,7 +128,7 @@ module _ (n : ℕ) {M : Type 1} {𝓤 : Ura M} (𝓛 : Logic 𝓤) where
         use1 𝓛 (‵ (cells (mem u8) front b start) ⊛ ‵ (cells (mem u8) (mid ++ back) b (at start 1 (length front)))) (cut_app 𝓛 (mem u8) front (mid ++ back) b start) $ split ! $ move ! (1 ∷ []) $
         rewrite ! 0 (λ (j : ℕ). ‵ (cells (mem u8) (mid ++ back) b j)) (on within long) refl $
         use1 𝓛 (‵ (cells (mem u8) mid b p) ⊛ ‵ (cells (mem u8) back b (at p 1 (length mid)))) (cut_app 𝓛 (mem u8) mid back b p) $ split ! $
-        -- [the part; the back; the front; what is left; the open borrow]
+        -- [the part; the end; the front; the rest of the struct; the open borrow]
         move ! (1 ∷ 3 ∷ []) $ join ! $ move ! (2 ∷ 0 ∷ []) $ join ! $
         -- [the rest; the part; the open borrow]
         move ! (2 ∷ 3 ∷ 4 ∷ 1 ∷ 0 ∷ []) $ group ! 5 $

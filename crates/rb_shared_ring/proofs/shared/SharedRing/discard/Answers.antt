@@ -3,7 +3,7 @@ use Rattle.std.specs.Prelude.{OnOk}
 use Rattle.rb_ledger.specs.Seats.{WorkerSeat}
 use Rattle.rb_shared_ring.proofs.shared.SharedRing.discard.Goals as goal
 
--- a discard sends nothing, and one that is handed back changes nothing
+-- a discard sends nothing, and a refused one changes nothing
 same-sent : {T E : Type 0} (answer : Result T E) (b a : WorkerSeat) (given : E) → OnOk answer (a.sent ≡ b.sent) → IfErr answer (λ back. (back ≡ given) × (a ≡ b)) → a.sent ≡ b.sent
 same-sent (Ok x) b a given sent back = sent
 same-sent (Err e) b a given sent back = ap (λ (s : WorkerSeat). s.sent) back.1

@@ -2,7 +2,7 @@ use Rattle.std.proofs.Common.{◌≡◌, ◌+◌, ◌-◌, ◌*◌, ◌<◌, ◌
 use Rattle.rb_source.proofs.Side.{length-side_by_side, get_or-side_by_side, place_small}
 use Rattle.rb_source.proofs.piece.Piece.get.Goals as goal
 
--- the context is one of those that are there, and lies in the memory
+-- the context is one of those in use, and lies within the memory
 is_there : (c : goal.After-deref) → c.args.index < c.self.inside.count
 is_there c = rw (← c.self.view_is, length-side_by_side) at c.requires
 

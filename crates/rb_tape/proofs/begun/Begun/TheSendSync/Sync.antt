@@ -1,4 +1,4 @@
--- It owns nothing, so any thread may share it.
+-- The value owns nothing, so any thread may share it.
 use denote.Param.Send.{IsSync, part_keyless}
 use Rattle.rb_tape.specs.contracts.begun.Begun.{the_row}
 use Rattle.rb_tape.proofs.begun.Begun.TheSendSync.Send.{send}

@@ -1,4 +1,4 @@
--- `of` makes a value of no bytes, whose ghost field is the record that it is given.
+-- `of` creates a value without bytes, whose ghost field is the record that it is given.
 use mathlib.Core.Path.{refl}
 use mathlib.Core.List.{[], ◌∷◌}
 use seplogic.Ra.Ura.{Ura}

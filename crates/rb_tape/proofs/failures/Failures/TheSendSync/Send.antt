@@ -1,4 +1,4 @@
--- It owns nothing, so it may go to any thread.
+-- The value owns nothing, so it may be sent to any thread.
 use denote.Param.Send.{IsSend, owning_send}
 use Rattle.rb_tape.specs.contracts.failures.Failures.{the_row, the_type}
 

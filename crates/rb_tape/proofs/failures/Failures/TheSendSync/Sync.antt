@@ -1,4 +1,4 @@
--- It owns nothing, so any thread may share it.
+-- The value owns nothing, so any thread may share it.
 use denote.Param.Send.{IsSync, part_keyless}
 use Rattle.rb_tape.specs.contracts.failures.Failures.{the_row}
 use Rattle.rb_tape.proofs.failures.Failures.TheSendSync.Send.{send}

@@ -1,4 +1,4 @@
--- `and_one` makes a value of no bytes, whose ghost field is one more than that of the value it is given.
+-- `and_one` creates a value without bytes, whose ghost field is one more than that of the value it is given.
 use mathlib.Core.Path.{refl}
 use mathlib.Core.List.{[], ◌∷◌}
 use seplogic.Ra.Ura.{Ura}

@@ -1,4 +1,4 @@
--- `none` makes a value of no bytes, whose ghost field is 0.
+-- `none` creates a value without bytes, whose ghost field is 0.
 use mathlib.Core.Path.{refl}
 use mathlib.Core.List.{[], ◌∷◌}
 use seplogic.Ra.Ura.{Ura}

@@ -1,7 +1,7 @@
 use Rattle.rb_chapter_ring.proofs.Written.{written-in-hand}
 use Rattle.rb_trials.proofs.bench.one_thread.hold_and_submit.Goals as goal
 
--- what was granted is out in the hand that it was granted into, and stays so when it is written
+-- the granted record is out in the hand that it was granted into, and stays there when it is written
 pub submit-requires : goal.submit-requires
 submit-requires c =
     let r = c.in-Ok.reservation in

@@ -16,7 +16,7 @@ use Rattle.rb_world.proofs.MachineAnswers.{output-answered}
 use Rattle.rb_world.proofs.Reasons.{same-some}
 use Rattle.rb_world.proofs.consumed_ring.ConsumedRing.answer_output.Goals as goal
 
--- the codes of an output pass through 64 bits
+-- the return codes of an output survive the conversion through 64 bits
 read : (a b : ℤ) → Code a ≡ Code b → to_z w64 (of_z w64 a) ≡ a → to_z w64 (of_z w64 b) ≡ b
 read a b e same = let is : a ≡ b = cc in subst (λ n. to_z w64 (of_z w64 n) ≡ n) is same
 
