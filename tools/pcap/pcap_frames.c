@@ -131,9 +131,19 @@ static void write_packets(uint32_t (*number)(const unsigned char *), uint32_t sn
     }
 }
 
+static const char usage_line[] = "usage: pcap-frames [--snap N] [--end] < CAPTURE\n";
+
 static _Noreturn void usage(void) {
-    fprintf(stderr, "usage: pcap-frames [--snap N] [--end] < CAPTURE\n");
+    fputs(usage_line, stderr);
     exit(2);
+}
+
+static _Noreturn void help(void) {
+    fputs(usage_line, stdout);
+    fputs("Converts a capture of tcpdump to frames: each packet's length as a little-endian u32, then its bytes.\n\n"
+          "  --snap N  truncate packets to N bytes\n"
+          "  --end     append the length 0xffffffff, which ends the stream\n", stdout);
+    exit(0);
 }
 
 static uint32_t snap_of(const char *word) {
@@ -145,14 +155,16 @@ static uint32_t snap_of(const char *word) {
 }
 
 int main(int count, char **words) {
-    static const struct option options[] = {{"snap", required_argument, 0, 's'}, {"end", no_argument, 0, 'e'}, {0, 0, 0, 0}};
+    static const struct option options[] = {{"snap", required_argument, 0, 's'}, {"end", no_argument, 0, 'e'}, {"help", no_argument, 0, 'h'}, {0, 0, 0, 0}};
     uint32_t snap = LONGEST_PACKET;
     int ends = 0, option;
-    while ((option = getopt_long(count, words, "", options, 0)) != -1) {
+    while ((option = getopt_long(count, words, "h", options, 0)) != -1) {
         if (option == 's')
             snap = snap_of(optarg);
         else if (option == 'e')
             ends = 1;
+        else if (option == 'h')
+            help();
         else
             usage();
     }
