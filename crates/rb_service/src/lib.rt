@@ -20,6 +20,3 @@ pub use outputs::RingOutput;
 pub use refusal::StreamRefusal;
 pub use rings::RingPlan;
 pub use service::{ServiceFault, ServiceRequest, serve};
-
-#[cfg(test)]
-mod tests;
