@@ -36,6 +36,17 @@ pub struct ProgramRingCost {
     pub held_bytes: u64,
 }
 
+// Returns what is told of the whole program.
+fn total_of(cost: &Cost) -> ProgramCost
+    ensures steps { result.steps ≡ cost.now.steps }
+    ensures calls { result.calls ≡ cost.now.calls }
+{
+    ProgramCost {
+        steps: cost.steps,
+        calls: cost.calls,
+    }
+}
+
 // What is told of a ring.
 fn row_of(cost: RingCost) -> ProgramRingCost
     ensures { result ≡ ring_row cost }
@@ -93,9 +104,6 @@ pub extern "C" fn heskavo_cost(
         return MEMORY;
     };
     put_rows(rings, found.rings.as_slice());
-    *cost = ProgramCost {
-        steps: found.steps,
-        calls: found.calls,
-    };
+    *cost = total_of(&found);
     DONE
 }
