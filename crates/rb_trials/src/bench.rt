@@ -1,4 +1,4 @@
-//! A benchmark of the rings, of verification, of the interpreter and of whole jobs. `tools/bench` runs it.
+//! A benchmark of the rings, of verification, of the interpreter, of whole jobs and of streams. `tools/bench` runs it.
 //!
 //! Without arguments it makes one small run of each workload and prints the results, which are the same each time. With
 //! the argument `time`, a workload's name and its numbers, it runs that workload, and prints for each of three rounds
@@ -10,7 +10,9 @@ mod jobs;
 mod one_thread;
 mod payloads;
 mod programs;
+mod repeated;
 mod stored;
+mod streams;
 mod threads;
 mod timing;
 mod workload;

@@ -8,7 +8,7 @@ use thiserror::Error;
 #[derive(Clone, Copy, Debug, Error)]
 pub(crate) enum TrialFault {
     /// The arguments name no trial.
-    #[error("usage: rb_trials orders TAKES AFTER LAST STEPS HEX [STEPS HEX].. | soak WORKERS RINGS SIZE ROOM STEPS SEED | sweep ring|list|seats|shared|jobs | bench [time WORKLOAD [NUMBER [NUMBER]]|payloads] [-- ..]")]
+    #[error("usage: rb_trials orders TAKES AFTER LAST STEPS HEX [STEPS HEX].. | soak WORKERS RINGS SIZE ROOM STEPS SEED | sweep ring|list|seats|shared|jobs | bench [time WORKLOAD [NUMBER].. |payloads] [-- ..]")]
     Usage,
     /// A program is invalid or not accepted.
     #[error("a program was refused")]

@@ -3,11 +3,13 @@
 ghost use Rattle.std.specs.Prelude.{IfOk};
 ghost use Rattle.rb_workers.specs.Opened.{AreOpened};
 
-use super::interpreting::load;
 use super::programs::RESERVING;
+use super::repeated::ContextLen;
 use crate::fault::TrialFault;
 use crate::listing::listed;
+use crate::loading::verified;
 use rb_interp::RunFault;
+use rb_program::decode;
 use rb_verifier::Verified;
 use rb_workers::{Job, NullSink, OpenGate, Opened, chapter_margin, chapter_room, run_jobs};
 use std::alloc::Global;
@@ -17,12 +19,12 @@ use std::thread::Threads;
 // The size of the ring, in bytes.
 const JOBS_SIZE: u64 = 1_048_576;
 
-// The context of each job.
-static CONTEXT: [u8; 16] = [0; 16];
-
-/// Returns the program that each job runs, verified for one ring.
-pub(crate) fn reserving_program(alloc: Global) -> Result<Verified, TrialFault> {
-    load(alloc, RESERVING.as_slice(), 1)
+/// Returns the program that each job runs, verified for contexts of this length and for one ring.
+pub(crate) fn reserving_program(alloc: Global, len: ContextLen) -> Result<Verified, TrialFault> {
+    match decode(alloc, RESERVING.as_slice()) {
+        Ok(program) => verified(alloc, program, len.bytes(), 1),
+        Err(_) => Err(TrialFault::Refused),
+    }
 }
 
 /// Returns `each` jobs for each worker, worker by worker.
@@ -31,10 +33,11 @@ pub(crate) fn jobs_of<'j>(
     program: &'j Verified,
     workers: u32,
     each: u32,
+    len: ContextLen,
 ) -> Result<Vec<Job<'j>>, TrialFault> {
     let each = each as usize;
     let mut jobs = Vec::with_capacity(alloc, (workers as usize).saturating_mul(each))?;
-    push_jobs(&mut jobs, program, workers, each)?;
+    push_jobs(&mut jobs, program, workers, each, len.context())?;
     Ok(jobs)
 }
 
@@ -43,12 +46,13 @@ fn push_jobs<'j>(
     program: &'j Verified,
     workers: u32,
     each: usize,
+    ctx: &'j [u8],
 ) -> Result<(), TrialFault> {
     for worker in 0..workers {
         let job = Job {
             worker,
             program,
-            ctx: CONTEXT.as_slice(),
+            ctx,
         };
         jobs.resize(jobs.len().saturating_add(each), job)?;
     }
@@ -105,8 +109,9 @@ pub(crate) fn run_over<R: Threads + Wait + Sync>(
     program: &Verified,
     workers: u32,
     each: u32,
+    len: ContextLen,
 ) -> Result<u64, TrialFault> {
-    let jobs = jobs_of(alloc, program, workers, each)?;
+    let jobs = jobs_of(alloc, program, workers, each, len)?;
     let rings = opened(rt, alloc, workers)?;
     run_all(rt, alloc, rings, jobs.as_slice())
 }

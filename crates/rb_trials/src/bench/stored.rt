@@ -4,6 +4,8 @@ use super::interpreting::{loaded, run_rounds};
 use super::jobs::{reserving_program, run_over};
 use super::one_thread::{output_and_take, reserve_and_submit};
 use super::programs::Body;
+use super::repeated::{ContextLen, RepeatedContext};
+use super::streams::{Start, stream_over};
 use super::threads::share;
 use crate::fault::TrialFault;
 use std::alloc::Global;
@@ -39,6 +41,14 @@ pub(crate) fn run<R: Threads + Wait + Sync + Print>(
             end_of(alloc, Body::Memory)?,
         ),
         ("jobs refused", jobs_refused(rt, alloc)?),
+        (
+            "contexts of a stream without a record",
+            stream_refused(rt, alloc, 16, Start::AtOnce)?,
+        ),
+        (
+            "contexts of a stream that waits for room without a record",
+            stream_refused(rt, alloc, 128, Start::WithRoom)?,
+        ),
     ];
     for (what, value) in told {
         println!(rt; "{what}: {value}")?;
@@ -54,6 +64,20 @@ fn end_of(alloc: Global, body: Body) -> Result<u64, TrialFault> {
 
 // Returns how many of 1,000 jobs got no record.
 fn jobs_refused<R: Threads + Wait + Sync>(rt: &R, alloc: Global) -> Result<u64, TrialFault> {
-    let program = reserving_program(alloc)?;
-    run_over(rt, alloc, &program, 2, 500)
+    let len = ContextLen::or_short(16);
+    let program = reserving_program(alloc, len)?;
+    run_over(rt, alloc, &program, 2, 500, len)
+}
+
+// Returns how many of 1,000 contexts of a stream got no record.
+fn stream_refused<R: Threads + Wait + Sync>(
+    rt: &R,
+    alloc: Global,
+    bytes: u32,
+    start: Start,
+) -> Result<u64, TrialFault> {
+    let len = ContextLen::or_short(bytes);
+    let program = reserving_program(alloc, len)?;
+    let source = RepeatedContext { len, left: 1000 };
+    stream_over(rt, alloc, program, 2, source, start)
 }

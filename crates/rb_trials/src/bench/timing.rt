@@ -6,6 +6,8 @@ use super::interpreting::{load_often, loaded, run_rounds};
 use super::jobs::{jobs_of, opened, reserving_program, run_all};
 use super::one_thread::{output_and_take, reserve_and_submit};
 use super::programs::{Body, program_of};
+use super::repeated::{ContextLen, RepeatedContext};
+use super::streams::{Start, stream_all};
 use super::threads::share;
 use super::workload::Workload;
 use crate::fault::TrialFault;
@@ -62,7 +64,13 @@ fn one_round<R: Threads + Wait + Sync + Clock>(
         Workload::Arithmetic => runs(rt, alloc, Body::Arithmetic),
         Workload::Stack => runs(rt, alloc, Body::Stack),
         Workload::Memory => runs(rt, alloc, Body::Memory),
-        Workload::Jobs { workers, each } => jobs(rt, alloc, workers, each),
+        Workload::Jobs { workers, each, len } => jobs(rt, alloc, workers, each, len),
+        Workload::Stream {
+            workers,
+            each,
+            len,
+            start,
+        } => streams(rt, alloc, workers, each, len, start),
     }
 }
 
@@ -116,9 +124,10 @@ fn jobs<R: Threads + Wait + Sync + Clock>(
     alloc: Global,
     workers: u32,
     each: u32,
+    len: ContextLen,
 ) -> Result<Round, TrialFault> {
-    let program = reserving_program(alloc)?;
-    jobs_over(rt, alloc, &program, workers, each)
+    let program = reserving_program(alloc, len)?;
+    jobs_over(rt, alloc, &program, workers, each, len)
 }
 
 fn jobs_over<R: Threads + Wait + Sync + Clock>(
@@ -127,8 +136,9 @@ fn jobs_over<R: Threads + Wait + Sync + Clock>(
     program: &Verified,
     workers: u32,
     each: u32,
+    len: ContextLen,
 ) -> Result<Round, TrialFault> {
-    let jobs = jobs_of(alloc, program, workers, each)?;
+    let jobs = jobs_of(alloc, program, workers, each, len)?;
     let rings = opened(rt, alloc, workers)?;
     timed_jobs(rt, alloc, rings, jobs.as_slice())
 }
@@ -145,6 +155,43 @@ fn timed_jobs<R: Threads + Wait + Sync + Clock>(
     let start = Instant::now(rt)?;
     let refused = run_all(rt, alloc, rings, jobs)?;
     ended(rt, start, refused)
+}
+
+fn streams<R: Threads + Wait + Sync + Clock>(
+    rt: &R,
+    alloc: Global,
+    workers: u32,
+    each: u32,
+    len: ContextLen,
+    start: Start,
+) -> Result<Round, TrialFault> {
+    let programs = vec![in alloc; reserving_program(alloc, len)?]?;
+    let left = u64::from(workers).saturating_mul(u64::from(each));
+    let rings = opened(rt, alloc, workers)?;
+    timed_stream(
+        rt,
+        alloc,
+        rings,
+        programs.as_slice(),
+        RepeatedContext { len, left },
+        start,
+    )
+}
+
+// Measures the time from the threads' start to their end.
+fn timed_stream<R: Threads + Wait + Sync + Clock>(
+    rt: &R,
+    alloc: Global,
+    rings: Vec<Opened<NullSink>>,
+    programs: &[Verified],
+    mut source: RepeatedContext,
+    start: Start,
+) -> Result<Round, TrialFault>
+    requires { AreOpened (λ s. s.position) rings.items }
+{
+    let begun = Instant::now(rt)?;
+    let refused = stream_all(rt, alloc, rings, programs, &mut source, start)?;
+    ended(rt, begun, refused)
 }
 
 // Returns a round that began at `start` and ends now.
