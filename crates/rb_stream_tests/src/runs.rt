@@ -4,8 +4,8 @@ ghost use Rattle.std.specs.Prelude.{◌≡◌};
 ghost use Rattle.rb_workers.specs.Opened.{AreOpened};
 
 use super::given::{
-    EventSum, FIRST_BYTE, Failing, OUTPUT_CONTEXT, OUTPUT_TO_SECOND, OneByOne, contexts, same,
-    two_rings, verified,
+    EventSum, FIRST_BYTE, Failing, OUTPUT_CONTEXT, OUTPUT_TO_SECOND, contexts, same, two_rings,
+    verified,
 };
 use rb_source::{ListSource, Source, SourceFault};
 use rb_stream::{Late, StreamEnd, StreamReport, run_stream};
@@ -104,25 +104,6 @@ fn a_source_that_fails_ends_the_stream(rt: HostRuntime) {
         &(2_000, 2_000, StreamEnd::Failed(SourceFault::Read)),
     );
     same(&rt, &taken(&report), &(4_000, 4_002_000, 0));
-}
-
-#[test]
-fn late_contexts_are_dropped_and_counted(rt: HostRuntime) {
-    let programs = three_programs(&rt, rt.alloc());
-    let all = contexts(&rt, rt.alloc(), 2_000);
-    let mut source = OneByOne {
-        list: &all,
-        next: 0,
-    };
-    let rings = two_rings(&rt, rt.alloc(), 1_048_576, 1, 20);
-    let report = report(&rt, rt.alloc(), rings, &programs, &mut source, Late::Drop);
-    let (events, _, others) = taken(&report);
-    same(
-        &rt,
-        &(report.contexts, report.ran.saturating_add(report.dropped)),
-        &(2_000, 2_000),
-    );
-    same(&rt, &(events, others), &(report.ran.saturating_mul(2), 0));
 }
 
 #[test]
