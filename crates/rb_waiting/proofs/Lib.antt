@@ -2,3 +2,4 @@ mod Asked
 mod Looked
 mod Rings
 mod Sums
+mod RingSizes

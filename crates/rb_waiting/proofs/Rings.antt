@@ -33,12 +33,13 @@ use Rattle.rb_ledger.specs.Headline.{Accounts}
 use Rattle.rb_ledger.specs.ChapterClosing.{AreTied, bound_book}
 use Rattle.rb_ledger.proofs.BoundChapters.{gathered-continues, tied-once-bound}
 use Rattle.rb_ledger.proofs.WholeCalls.{said}
+use Rattle.rb_jobs.specs.SeatHelpers.{refused_in}
 use Rattle.rb_jobs.proofs.Lists.{zip_length}
 use Rattle.rb_run_cost.proofs.Refusals.{fewer}
 use Rattle.rb_workers.specs.declared.opened.Ended.{Ended}
 use Rattle.rb_workers.specs.declared.opened.Opened.{Opened}
 use Rattle.rb_workers.specs.Opened.{AreOpened, IsOpened, workers_of}
-use Rattle.rb_workers.specs.Reports.{RingEnds, RingsEnd, ring_at_end}
+use Rattle.rb_workers.specs.Reports.{RingEnds, RingsEnd, refused_by_all, ring_at_end}
 use Rattle.rb_workers.specs.SeatRows.{seat_rows, worker_column}
 use Rattle.rb_workers.proofs.Numbered.{seats_length}
 use Rattle.rb_workers.proofs.Same.{opened_long}
@@ -50,6 +51,7 @@ use Rattle.rb_stream_worker.specs.declared.when_full.WhenFull.TheVariants.{Wait}
 use Rattle.rb_stream.specs.Streamed.{IsStreamedAs}
 use Rattle.rb_stream.specs.declared.report.StreamReport.{StreamReport}
 use Rattle.rb_waiting.specs.Plans.{IsPlan, LeavesRoom, bytes_asked}
+use Rattle.rb_waiting.specs.Failures.{FailsUnlogged}
 use Rattle.rb_waiting.specs.NoneRefused.{HasNotAsked, RefusesNoRecord, StaysLow}
 use Rattle.rb_waiting.proofs.Asked.{HasCost}
 use Rattle.rb_waiting.proofs.Looked.{by_turns, looks, none_asked, same_some, zip_get}
@@ -268,3 +270,38 @@ none_refused {S} position takes gives opened programs t bound source later repor
     (λ w s lt at. column_get w k (seat_rows opened) o.seats.items s (all_long w count (seat_rows opened) lt old_long) row_at at)
     (λ w s lt at. column_get w k streamed.seats row s (all_long w count streamed.seats lt new_long) here.3 at)
     (all_at (All HasNotAsked) (seat_rows opened) k o.seats.items unasked row_at) (low k d below)
+
+-- ---- failures
+
+-- seats that were refused nothing, together
+none_by_seats : (seats : List WorkerSeat) → All (λ (y : Tally). y.refused ≡ 0) (map (λ s. s.tally) seats) → refused_in seats ≡ 0
+none_by_seats [] all = refl
+none_by_seats (s ∷ seats) all =
+    let more = sum_by-cons (λ (x : WorkerSeat). x.tally.refused) s seats in
+    let here : s.tally.refused ≡ 0 = All-head (λ (y : Tally). y.refused ≡ 0) s.tally (map (λ (x : WorkerSeat). x.tally) seats) all in
+    let rest = none_by_seats seats (All-tail (λ (y : Tally). y.refused ≡ 0) s.tally (map (λ (x : WorkerSeat). x.tally) seats) all) in
+    omega (arith, more, here, rest)
+
+none_by_rows : {S : Type 0} (position : S → ℕ) (takes : S → SinkItem → S → Type 0) (os : List (Opened S)) (es : List (Ended S)) (rows : List (List WorkerSeat)) → RingsEnd position takes os es rows → All RefusesNoRecord es
+    → refused_by_all rows ≡ 0
+none_by_rows position takes [] [] [] ends all = refl
+none_by_rows position takes (o ∷ os) (e ∷ es) (row ∷ rows) ends all =
+    let first : RefusesNoRecord e = All-head RefusesNoRecord e es all in
+    let here = none_by_seats row (subst (All (λ (y : Tally). y.refused ≡ 0)) ends.0.tallies_are first.tallies) in
+    let rest = none_by_rows position takes os es rows ends.1 (All-tail RefusesNoRecord e es all) in
+    let more = sum_by-cons refused_in row rows in
+    omega (arith, more, here, rest)
+none_by_rows position takes [] (e ∷ es) rows ends all = absurd ends
+none_by_rows position takes [] [] (row ∷ rows) ends all = absurd ends
+none_by_rows position takes (o ∷ os) [] rows ends all = absurd ends
+none_by_rows position takes (o ∷ os) (e ∷ es) [] ends all = absurd ends
+
+-- so each failure was counted as unlogged
+pub fails_unlogged : {S I : Type 0} (position : S → ℕ) (takes : S → SinkItem → S → Type 0) (gives : I → List (List ℕ) → I → Type 0) (opened : List (Opened S)) (programs : List Subject) (t : Turns) (bound : ℕ) (source later : I) (report : StreamReport S)
+    → AreOpened position opened → IsPlan opened programs t → IsStreamedAs (Wait t) position takes gives opened programs bound source later report
+    → All (All HasNotAsked) (seat_rows opened) → All StaysLow report.rings.items → FailsUnlogged (Wait t) position takes gives opened programs bound source later report
+fails_unlogged position takes gives opened programs t bound source later report all plan streamed unasked low =
+    let none = none_refused position takes gives opened programs t bound source later report all plan streamed unasked low in
+    let zero_refused = none_by_rows position takes opened report.rings.items streamed.seats streamed.rings_end none in
+    let sum = streamed.failures_add_up in
+    record { streamed = streamed; all_unlogged = omega (arith, zero_refused, sum) }

@@ -1,6 +1,6 @@
 -- Sums of what programs request from rings, and turns that fit.
-use Rattle.std.proofs.Common.{◌≡◌, ℕ, ◌+◌, ◌*◌, ◌<◌, ◌≤◌, ◌^◌, List, [], ◌∷◌, ◌++◌, length, get_or, sym, ap, ◌∙◌, subst, take, arith, Some, ⊎_elim}
-use Rattle.std.specs.Prelude.{All}
+use Rattle.std.proofs.Common.{◌≡◌, ℕ, ◌+◌, ◌*◌, ◌<◌, ◌≤◌, ◌^◌, List, [], ◌∷◌, ◌++◌, length, get_or, sym, ap, ◌∙◌, subst, take, arith, Option, None, Some, Result, Ok, Err, inl, inr, min, ⊎_elim}
+use Rattle.std.specs.Prelude.{All, IsErrOf}
 use Rattle.std.specs.List.{AllZip}
 use Rattle.std.proofs.lemmas.Bool.{cases_lt}
 use Rattle.std.proofs.lemmas.List.{get_or_append_left, get_or_default, get_or_push, take_more}
@@ -11,15 +11,21 @@ use Rattle.std.proofs.Math.Nat.{mul-le-mul, mul-le-mul_left, mul-le-mul_right}
 use Rattle.rb_verifier.specs.Subject.{Subject}
 use Rattle.rb_cost.specs.declared.cost.Cost.{Cost}
 use Rattle.rb_cost.specs.Cost.{IsCost}
+use Rattle.rb_cost.specs.RingSize.{IsLeastRing, least_ring}
 use Rattle.rb_cost.specs.Runs.{ring_cost_at}
 use Rattle.rb_cost.specs.TurnSize.{IsTurnLength, contexts_at_once}
+use Rattle.rb_cost.proofs.LeastRings.{least_rings}
 use Rattle.rb_cost.proofs.TurnSizes.{turns_fit}
 use Rattle.rb_call_cost.specs.CallCosts.{IsVerified}
 use Rattle.rb_workers.specs.declared.opened.Opened.{Opened}
 use Rattle.rb_workers.proofs.Parts.{zip_more}
 use Rattle.rb_stream_worker.specs.declared.when_full.Turns.{Turns}
-use Rattle.rb_waiting.specs.Plans.{IsPlan, bytes_asked}
-use Rattle.rb_waiting.specs.inner.Sums.{AddsCost, AreSums, FitsTurns, SumsUp, capped}
+use Rattle.rb_waiting.specs.Faults.{IsFirstTooSmall}
+use Rattle.rb_waiting.specs.Plans.{IsLongest, IsPlan, bytes_asked, contexts_by}
+use Rattle.rb_waiting.specs.declared.plan.SmallRing.{SmallRing}
+use Rattle.rb_waiting.specs.declared.plan.TurnFault.{TurnFault}
+use Rattle.rb_waiting.specs.declared.plan.TurnFault.TheVariants.{TooSmall}
+use Rattle.rb_waiting.specs.inner.Sums.{AddsCost, AreLongest, AreSums, FitsTurns, IsFirstSmall, SumsUp, capped}
 
 -- a cost has a part for each ring that its program uses
 pub cost_rings : (p : Subject) (cost : Cost) → IsVerified p → IsCost p cost → length cost.rings.items ≡ p.rings
@@ -110,6 +116,33 @@ module _ {S : Type 0} (opened : List (Opened S)) (sums : List ℕ) where
             (subst (λ n. x.consumer.seen.setup.workers * (new * n) < x.consumer.seen.setup.size) (get_or_default sums at 0 s in_sums) short))) (cases_lt k at);
       }
 
+-- turns that are as long as one ring more allows
+pub longest_more : {S : Type 0} (opened : List (Opened S)) (sums : List ℕ) (at old most new : ℕ) (x : Opened S) → at < length opened → at < length sums → x ≡ get_or opened at x → new ≡ min old most → AreLongest opened sums at old
+    → contexts_at_once x.consumer.seen.setup.size x.consumer.seen.setup.workers (get_or sums at 0) ≡ Some most → AreLongest opened sums (at + 1) new
+longest_more {S} opened sums at old most new x in_opened in_sums is least before chosen =
+    let by : ℕ → ℕ → Opened S → Option ℕ = λ k s o. contexts_by (get_or opened k o).consumer.seen.setup (get_or sums k s) in
+    let here : (s : ℕ) (o : Opened S) → by at s o ≡ Some most = λ s o.
+    subst (λ (y : Opened S). contexts_by y.consumer.seen.setup (get_or sums at s) ≡ Some most) (sym (get_or_default opened at o x in_opened ∙ sym is))
+    (subst (λ n. contexts_by x.consumer.seen.setup n ≡ Some most) (get_or_default sums at 0 s in_sums) chosen) in
+    record {
+      within = λ k s o below.
+          ⊎_elim
+          (λ lower. let w = before.within k s o lower in let le = w.2 in (w.0, w.1, omega (arith, least, le)))
+          (λ last.
+          let same : k ≡ at = omega (arith, last, below) in
+          (most, subst (λ j. by j s o ≡ Some most) (sym same) (here s o), omega (arith, least)))
+          (cases_lt k at);
+      reached =
+          ⊎_elim
+          (λ shorter. let same : most ≡ new = omega (arith, least, shorter) in inr (at, omega arith, λ s o. subst (λ n. by at s o ≡ Some n) same (here s o)))
+          (λ longer.
+          let same : old ≡ new = omega (arith, least, longer) in
+          ⊎_elim (λ sixteen. inl (sym same ∙ sixteen))
+          (λ one. let below = one.1 in inr (one.0, omega (arith, below), λ s o. subst (λ n. by one.0 s o ≡ Some n) same (one.2 s o)))
+          before.reached)
+          (cases_lt most old);
+    }
+
 -- one limit more
 pub limits_more : {S : Type 0} (opened : List (Opened S)) (sums limits : List ℕ) (contexts at limit : ℕ) (x : Opened S) → length limits ≡ at → at < length opened → at < length sums → x ≡ get_or opened at x
     → ((k d s : ℕ) (o : Opened S) → k < at → get_or limits k d + (get_or opened k o).consumer.seen.setup.workers * (contexts * get_or sums k s) + 1 ≡ (get_or opened k o).consumer.seen.setup.size)
@@ -150,3 +183,115 @@ plan_of opened programs sums t are fit verified knows many limits = record {
       in
       subst (λ n. get_or t.limits.items k d + r.workers * (t.contexts * n) + 1 ≡ r.size) exact (limits k d 0 o below);
 }
+
+-- ---- rings that are too small
+
+-- a ring that a capped cost does not fit is too small for the cost, too
+more_than_capped : (workers cost : ℕ) → workers * capped cost ≤ workers * cost
+more_than_capped workers cost = mul-le-mul_left workers (let c : capped cost ≤ cost = omega arith in c)
+
+-- the smallest ring for a capped cost is the smallest one for the cost: no ring is larger than a cost that was capped
+least_capped : (workers cost : ℕ) (least : Option ℕ) → 1 ≤ workers → IsLeastRing (workers * capped cost) least → IsLeastRing (workers * cost) least
+least_capped workers cost None some is =
+    let more = more_than_capped workers cost in
+    λ other size larger. is other size (omega (arith, more, larger))
+least_capped workers cost (Some size) some is =
+    let most = is.0.2 in
+    let larger = is.1 in
+    let one : 1 * capped cost ≤ workers * capped cost = mul-le-mul_right (capped cost) some in
+    let exact : capped cost ≡ cost = omega (arith, most, larger, one) in
+    subst (λ c. IsLeastRing (workers * c) (Some size)) exact is
+
+-- a ring that one context of every worker fits, by a capped cost
+one_each_fits : (workers cost sum size : ℕ) → 1 ≤ workers → sum ≡ capped cost → size < 2 ^ 64 → workers * sum < size → workers * cost < size
+one_each_fits workers cost sum size some is small fits =
+    let one : workers * (1 * sum) ≡ workers * sum = omega arith in
+    let exact : sum ≡ cost = exact_where_it_fits workers 1 cost sum size some (omega arith) is small (omega (arith, one, fits)) in
+    subst (λ c. workers * c < size) exact fits
+
+-- the first ring that is too small by the sums of what programs request
+pub first_too_small : {S : Type 0} (opened : List (Opened S)) (programs : List Subject) (sums : List ℕ) (small : SmallRing) → AreSums programs (length opened) sums → IsFirstSmall opened sums small → IsFirstTooSmall opened programs small
+first_too_small {S} opened programs sums small are is = record {
+  costs = are.costs;
+  costs_are = are.costs_are;
+  inside = is.inside;
+  too_small = λ o fits.
+      let at : get_or sums small.ring 0 ≡ capped (bytes_asked are.costs small.ring) = are.sums_are small.ring 0 is.inside in
+      let w = (get_or opened small.ring o).consumer.seen.setup.workers in
+      let over : (get_or opened small.ring o).consumer.seen.setup.size ≤ w * get_or sums small.ring 0 = is.too_small 0 o in
+      let same : w * get_or sums small.ring 0 ≡ w * capped (bytes_asked are.costs small.ring) = ap (λ n. w * n) at in
+      let more = more_than_capped w (bytes_asked are.costs small.ring) in
+      omega (arith, over, same, more, fits);
+  first = λ k o below.
+      let inside = is.inside in
+      one_each_fits (get_or opened k o).consumer.seen.setup.workers (bytes_asked are.costs k) (get_or sums k 0) (get_or opened k o).consumer.seen.setup.size (is.workers k o (omega (arith, below)))
+      (are.sums_are k 0 (omega (arith, below, inside))) (is.below k o below) (is.fits k 0 o below);
+  least = λ o.
+      let w = (get_or opened small.ring o).consumer.seen.setup.workers in
+      let at : get_or sums small.ring 0 ≡ capped (bytes_asked are.costs small.ring) = are.sums_are small.ring 0 is.inside in
+      let found : least_ring (w * capped (bytes_asked are.costs small.ring)) ≡ small.least = ap (λ n. least_ring (w * n)) (sym at) ∙ sym (is.least 0 o) in
+      least_capped w (bytes_asked are.costs small.ring) small.least (is.workers small.ring o (omega arith))
+      (subst (IsLeastRing (w * capped (bytes_asked are.costs small.ring))) found (least_rings (w * capped (bytes_asked are.costs small.ring))));
+}
+
+-- what a ring has no turns for
+pub too_large : (size workers sum : ℕ) → contexts_at_once size workers sum ≡ None → size ≤ workers * sum
+too_large size workers sum is = subst (IsTurnLength size workers sum) is (turns_fit size workers sum)
+
+-- the ring after those that turns fit is the first that they do not fit
+pub first_small : {S : Type 0} (opened : List (Opened S)) (sums : List ℕ) (at contexts : ℕ) (least : Option ℕ) (x : Opened S) → at < length opened → at < length sums → x ≡ get_or opened at x → FitsBefore opened sums at contexts → 1 ≤ x.consumer.seen.setup.workers
+    → contexts_at_once x.consumer.seen.setup.size x.consumer.seen.setup.workers (get_or sums at 0) ≡ None → least ≡ least_ring (x.consumer.seen.setup.workers * get_or sums at 0)
+    → IsFirstSmall opened sums (record { ring = at; least = least })
+first_small {S} opened sums at contexts least x in_opened in_sums is before works none found =
+    let item : (o : Opened S) → get_or opened at o ≡ x = λ o. get_or_default opened at o x in_opened ∙ sym is in
+    record {
+      inside = in_opened;
+      workers = λ k o le.
+          ⊎_elim (λ lower. before.workers k o lower)
+          (λ last.
+          let same : k ≡ at = omega (arith, last, le) in
+          subst (λ j. 1 ≤ (get_or opened j o).consumer.seen.setup.workers) (sym same) (subst (λ (y : Opened S). 1 ≤ y.consumer.seen.setup.workers) (sym (item o)) works)) (cases_lt k at);
+      below = λ k o lower. before.small k o lower;
+      fits = λ k s o lower.
+          let w = (get_or opened k o).consumer.seen.setup.workers in
+          let one : w * (1 * get_or sums k s) ≡ w * get_or sums k s = omega arith in
+          let fits = shorter_fits w 1 contexts (get_or sums k s) (get_or opened k o).consumer.seen.setup.size before.some (before.fits k s o lower) in
+          omega (arith, one, fits);
+      too_small = λ s o.
+          subst (λ (y : Opened S). y.consumer.seen.setup.size ≤ y.consumer.seen.setup.workers * get_or sums at s) (sym (item o))
+          (subst (λ n. x.consumer.seen.setup.size ≤ x.consumer.seen.setup.workers * n) (get_or_default sums at 0 s in_sums) (too_large x.consumer.seen.setup.size x.consumer.seen.setup.workers (get_or sums at 0) none));
+      least = λ s o.
+          subst (λ (y : Opened S). least ≡ least_ring (y.consumer.seen.setup.workers * get_or sums at s)) (sym (item o))
+          (subst (λ n. least ≡ least_ring (x.consumer.seen.setup.workers * n)) (get_or_default sums at 0 s in_sums) found);
+    }
+
+-- a plan's turns are as long as the rings allow
+pub is_longest : {S : Type 0} (opened : List (Opened S)) (programs : List Subject) (sums : List ℕ) (contexts : ℕ) → AreSums programs (length opened) sums → FitsTurns opened sums contexts → AreLongest opened sums (length opened) contexts
+    → IsLongest opened programs contexts
+is_longest {S} opened programs sums contexts are fit longest =
+    let exact : (k : ℕ) (o : Opened S) → k < length opened → get_or sums k 0 ≡ bytes_asked are.costs k = λ k o below.
+    exact_where_it_fits (get_or opened k o).consumer.seen.setup.workers contexts (bytes_asked are.costs k) (get_or sums k 0) (get_or opened k o).consumer.seen.setup.size (fit.workers k o below) fit.some (are.sums_are k 0 below)
+    (fit.small k o below) (fit.fits k 0 o below) in
+    record {
+      costs = are.costs;
+      costs_are = are.costs_are;
+      within = λ k o below.
+          let w = longest.within k 0 o below in
+          (w.0, subst (λ n. contexts_by (get_or opened k o).consumer.seen.setup n ≡ Some w.0) (exact k o below) w.1, w.2);
+      reached =
+          ⊎_elim (λ sixteen. inl sixteen)
+          (λ one. inr (one.0, one.1, λ o. subst (λ n. contexts_by (get_or opened one.0 o).consumer.seen.setup n ≡ Some contexts) (exact one.0 o one.1) (one.2 0 o)))
+          longest.reached;
+    }
+
+-- ---- faults
+
+-- what holds of a ring that is too small holds of the one that is reported
+pub reported_small : {T : Type 0} (IsSmall : SmallRing → Type 0) (small : SmallRing) → IsSmall small → (other : SmallRing) → IsErrOf {T = T} (Err (TooSmall small)) (TooSmall other) → IsSmall other
+reported_small {T} IsSmall small is other e = subst IsSmall (same_small small other e) is
+  where
+    same_small : (a b : SmallRing) → ◌≡◌ {A = Result T TurnFault} (Err (TooSmall a)) (Err (TooSmall b)) → a ≡ b
+    same_small a b e = cc
+
+pub no_fault : {T E : Type 0} {value : T} {error : E} → ◌≡◌ {A = Result T E} (Ok value) (Err error) → ⊥
+no_fault e = cc

@@ -1,10 +1,11 @@
 -- Turns for which there is room: how much room each worker waits for (own).
-use Rattle.std.specs.Prelude.{◌≡◌, ℕ, ◌+◌, ◌*◌, ◌<◌, ◌≤◌, List, length, slice_index_or}
+use Rattle.std.specs.Prelude.{◌≡◌, ℕ, ◌+◌, ◌*◌, ◌<◌, ◌≤◌, ◌⊎◌, List, Option, Some, length, slice_index_or}
 use Rattle.std.specs.List.{All, AllZip, sum_by}
 use Rattle.rb_verifier.specs.Subject.{Subject}
 use Rattle.rb_cost.specs.declared.cost.Cost.{Cost}
 use Rattle.rb_cost.specs.Cost.{IsCost}
 use Rattle.rb_cost.specs.Runs.{ring_cost_at}
+use Rattle.rb_cost.specs.TurnSize.{contexts_at_once}
 use Rattle.rb_call_cost.specs.CallCosts.{IsVerified}
 use Rattle.rb_history.specs.RoomRule.{Setup}
 use Rattle.rb_stream_worker.specs.declared.when_full.Turns.{Turns}
@@ -32,3 +33,15 @@ pub record IsPlan {S : Type 0} (opened : List (Opened S)) (programs : List Subje
   pub as_many : length turns.limits.items ≡ length opened
   pub leaves_room : (k d : ℕ) (o : Opened S) → k < length opened
       → LeavesRoom (slice_index_or opened k o).consumer.seen.setup (turns.contexts * bytes_asked costs k) (slice_index_or turns.limits.items k d)
+
+-- how many contexts a turn has by one ring alone, if a context requests at most `bytes` there
+abbrev pub contexts_by : Setup → (bytes : ℕ) → Option ℕ
+contexts_by r bytes = contexts_at_once r.size r.workers bytes
+
+-- Turns are as long as each ring allows, by the costs of all programs together, and have at most 16 contexts.
+pub record IsLongest {S : Type 0} (opened : List (Opened S)) (programs : List Subject) (contexts : ℕ) : Type 0 where
+  pub costs : List Cost
+  pub costs_are : AllZip IsCost programs costs
+  pub within : (k : ℕ) (o : Opened S) → k < length opened → (n : ℕ) × (contexts_by (slice_index_or opened k o).consumer.seen.setup (bytes_asked costs k) ≡ Some n) × (contexts ≤ n)
+  pub reached : (contexts ≡ 16)
+      ⊎ ((k : ℕ) × (k < length opened) × ((o : Opened S) → contexts_by (slice_index_or opened k o).consumer.seen.setup (bytes_asked costs k) ≡ Some contexts))

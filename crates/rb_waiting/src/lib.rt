@@ -11,7 +11,9 @@
 #![tactic(auto)]
 
 mod plan;
+mod waiting_sizes;
 mod waiting_stream;
 
 pub use plan::{SmallRing, TurnFault, plan_turns};
+pub use waiting_sizes::{TurnSizes, turn_sizes, turn_sizes_text, turns_need_their_sizes};
 pub use waiting_stream::run_waiting_stream;

@@ -1,9 +1,13 @@
 //! The number of contexts of a turn, and the number of untaken bytes with which it may begin.
 
-ghost use Rattle.std.specs.Prelude.{◌≡◌, ◌+◌, ◌*◌, ◌<◌, ◌≤◌, ℕ, All, IfOk, length, slice_index_or, true, vec_len};
+ghost use Rattle.std.specs.Prelude.{◌≡◌, ◌↔◌, ◌+◌, ◌*◌, ◌<◌, ◌≤◌, ℕ, All, IfErr, IfOk, IsErrOf, IsTrue, false, length, slice_index_or, true, vec_len};
+ghost use Rattle.rb_cost.specs.RingSize.{least_ring};
 ghost use Rattle.rb_call_cost.specs.CallCosts.{IsVerified};
-ghost use Rattle.rb_waiting.specs.Plans.{IsPlan};
-ghost use Rattle.rb_waiting.specs.inner.Sums.{AddsCost, AreSums, FitsTurns};
+ghost use Rattle.rb_waiting.specs.Faults.{IsFirstTooSmall};
+ghost use Rattle.rb_waiting.specs.Plans.{IsLongest, IsPlan};
+ghost use Rattle.rb_waiting.specs.inner.Sums.{AddsCost, AreLongest, AreSums, FitsTurns, IsFirstSmall};
+ghost use Rattle.rb_waiting.specs.declared.plan.SmallRing.{SmallRing};
+ghost use Rattle.rb_waiting.specs.declared.plan.TurnFault.TheVariants.{FewerRings, TooSmall};
 
 use rb_cost::{Cost, contexts_at_once, cost_of, least_ring};
 use rb_stream_worker::Turns;
@@ -46,14 +50,22 @@ fn is_verified(program: &Verified)
     program.program().facts();
 }
 
-// Returns whether each program was verified for at least `rings` rings.
+// Whether a program was verified for at least `rings` rings.
+fn knows(program: &Verified, rings: usize) -> bool
+    ensures value { IsTrue result ↔ (rings ≤ program.now.rings) }
+{
+    program.rings() as usize >= rings
+}
+
+// Whether each program was verified for at least `rings` rings.
 fn all_know(programs: &[Verified], rings: usize) -> bool
     ensures known { result ≡ true → All (λ p. rings ≤ p.rings) programs.now }
+    ensures unknown { result ≡ false → ¬ All (λ p. rings ≤ p.rings) programs.now }
     ensures verified { result ≡ true → All IsVerified programs.now }
 {
     for program in programs {
         is_verified(program);
-        if (program.rings() as usize) < rings {
+        if !knows(program, rings) {
             return false;
         }
     }
@@ -85,19 +97,31 @@ fn sum_costs(alloc: Global, programs: &[Verified], rings: usize) -> Result<Vec<u
     Ok(sums)
 }
 
+// Returns the size of the smallest ring that one context of every worker fits.
+fn least_for(workers: u32, sum: u64) -> Option<u64>
+    ensures { result ≡ least_ring (workers * sum) }
+{
+    least_ring(u128::from(workers) * u128::from(sum))
+}
+
 // Returns how many contexts a turn may have, so that each ring has room for a turn of every worker, or the first ring that is too small.
 fn fit_turns<S>(opened: &[Opened<S>], sums: &[u64]) -> Result<u32, SmallRing>
     requires each { length sums.now ≡ length opened.now }
     ensures fits { IfOk result (λ n. FitsTurns opened.now sums.now n) }
+    ensures longest { IfOk result (λ n. AreLongest opened.now sums.now (length opened.now) n) }
+    ensures small { IfErr result (IsFirstSmall opened.now sums.now) }
 {
     let mut contexts = MOST_CONTEXTS;
     for at in 0..opened.len() {
         let consumer = &opened[at].consumer;
         consumer.facts();
         let numbers = consumer.numbers();
-        let Some(most) = contexts_at_once(numbers.size, numbers.workers, sums[at]) else {
-            let least = least_ring(u128::from(numbers.workers) * u128::from(sums[at]));
-            return Err(SmallRing { ring: at, least });
+        let most = match contexts_at_once(numbers.size, numbers.workers, sums[at]) {
+            Some(most) => most,
+            None => {
+                let least = least_for(numbers.workers, sums[at]);
+                return Err(SmallRing { ring: at, least });
+            }
         };
         contexts = contexts.min(most);
     }
@@ -145,13 +169,17 @@ fn limits_of<S>(
 ///
 /// Returns `FewerRings` if a program was verified for fewer rings than there are, `TooSmall` for the first ring that
 /// has no room for one context of every worker, with the smallest size that is enough, and `Memory` if the plan can't
-/// be allocated.
+/// be allocated. If no program was verified for fewer rings and no ring is too small, there is a plan unless memory is
+/// lacking.
 pub fn plan_turns<S>(
     alloc: Global,
     opened: &[Opened<S>],
     programs: &[Verified],
 ) -> Result<Turns, TurnFault>
     ensures planned { IfOk result (IsPlan opened.now programs.now) }
+    ensures longest { IfOk result (λ turns. IsLongest opened.now programs.now turns.contexts) }
+    ensures fewer_rings { IsErrOf result FewerRings ↔ ¬ All (λ p. length opened.now ≤ p.rings) programs.now }
+    ensures too_small { (small : SmallRing) → IsErrOf result (TooSmall small) → IsFirstTooSmall opened.now programs.now small }
 {
     if !all_know(programs, opened.len()) {
         return Err(TurnFault::FewerRings);

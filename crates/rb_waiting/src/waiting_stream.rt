@@ -7,6 +7,7 @@ ghost use Rattle.rb_workers.specs.SeatRows.{seat_rows};
 ghost use Rattle.rb_workers.specs.Settled.{EachSettled, EndsSettled};
 ghost use Rattle.rb_stream.specs.Refusals.{StopsFor, has_other_length, has_unknown_ring};
 ghost use Rattle.rb_stream.specs.Streamed.{EndsSource, IsStoppedAs, IsStreamedAs};
+ghost use Rattle.rb_waiting.specs.Failures.{FailsUnlogged};
 ghost use Rattle.rb_waiting.specs.NoneRefused.{HasNotAsked, RefusesNoRecord, StaysLow};
 ghost use Rattle.rb_waiting.specs.Plans.{IsPlan};
 
@@ -46,6 +47,7 @@ pub fn run_waiting_stream<R: Threads + Wait + Sync, I: Source + Send, S: Sink + 
     requires opened { AreOpened S.position_of opened.items }
     requires planned { IsPlan opened.items programs.now turns }
     ensures none_refused { IfOk result (λ r. All (All HasNotAsked) (seat_rows opened.items) → All StaysLow r.rings.items → All RefusesNoRecord r.rings.items) }
+    ensures fails_unlogged { IfOk result (λ r. All (All HasNotAsked) (seat_rows opened.items) → All StaysLow r.rings.items → FailsUnlogged (WhenFull.Wait turns) S.position_of S.takes I.gives opened.items programs.now bound source.old source.new r) }
     ensures unknown_ring { StopsFor StreamFault.UnknownRing result ↔ (has_unknown_ring (vec_len opened) programs.now ≡ true) }
     ensures context_length { StopsFor StreamFault.ContextLength result ↔ ((has_unknown_ring (vec_len opened) programs.now ≡ false) × (has_other_length (I.ctx_len_of source.old) programs.now ≡ true)) }
     ensures no_worker { StopsFor StreamFault.NoWorker result ↔ ((has_unknown_ring (vec_len opened) programs.now ≡ false) × (has_other_length (I.ctx_len_of source.old) programs.now ≡ false) × (workers_of opened.items ≡ 0)) }

@@ -1,4 +1,4 @@
-use Rattle.std.proofs.Common.{◌≤◌, arith}
+use Rattle.std.proofs.Common.{◌≤◌}
 use Rattle.rb_verifier.specs.Subject.{Subject}
 use Rattle.rb_call_cost.specs.CallCosts.{IsVerified}
 use Rattle.rb_waiting.proofs.Sums.{all_more, all_taken}
@@ -8,10 +8,8 @@ pub loop-program-preserved : goal.loop-program-preserved
 loop-program-preserved c =
     let i = c.loop-program.program-index in
     let p = c.program-item.result in
-    let rings_are = c.rings.ensures in
-    let enough = c.if-rings.false in
     record {
-      known = all_more (λ (s : Subject). c.args.rings ≤ s.rings) c.args.programs.now i p c.loop-program-test.true c.program-item.is c.loop-program.invariant.known (omega (arith, rings_are, enough));
+      known = all_more (λ (s : Subject). c.args.rings ≤ s.rings) c.args.programs.now i p c.loop-program-test.true c.program-item.is c.loop-program.invariant.known (c.knows.ensures.value.0 c.if-not-knows.false);
       verified = all_more IsVerified c.args.programs.now i p c.loop-program-test.true c.program-item.is c.loop-program.invariant.verified c.is_verified.ensures;
     }
 
