@@ -1,10 +1,10 @@
-//! What the values of options may be, as refusals word it.
+//! The bounds of the values of options, as refusals word them.
 
-/// The sizes of a ring.
+/// The sizes that a ring may have.
 pub(crate) const SIZES: &str = "a power of two from 4096 to 67108864";
 
-/// The first positions of a ring.
+/// The first positions that a ring may have.
 pub(crate) const STARTS: &str = "a multiple of 8 up to 2305843009213693952";
 
-/// The numbers of workers.
+/// The numbers of workers that a ring may have.
 pub(crate) const WORKERS: &str = "1 to 256";

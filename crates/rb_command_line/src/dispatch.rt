@@ -1,4 +1,4 @@
-//! The program's commands.
+//! Executes the program's commands.
 
 ghost use Rattle.std.specs.Prelude.{◌≡◌, ◌≤◌, OnOk};
 ghost use Rattle.std.specs.Io.KnownBytes.{Keeps};
@@ -30,16 +30,22 @@ use std::sync::Wait;
 use std::thread::Threads;
 use std::time::Clock;
 
-/// Carries out the command that the words name, which follow the program's name on the command line, and returns the status that
-/// the program ends with: 0; 1 where it was refused, with a line on `err` that begins with `refused `, with `--why` behind a line with the reason,
-/// and with `--json` as an object on `out` too; 2 for wrong usage, which goes to `err` before anything is read or written. Help and the version,
-/// where they are asked for, go to `out`. A command that is given a FILE reads it in the place of `input`.
+/// Executes the command that the words name, which follow the program's name on the command line, and returns the
+/// program's exit status:
 ///
-/// With `--progress`, and without it if standard error is a terminal and standard output is none, `feed`, `tape`, `run` and `sim` tell about once a
-/// second how far they are, on the runtime's standard error and not on `err`, and take it away at the end. If standard error is a terminal `--why` is
-/// the default, which `--no-why` turns off.
+/// - 0 for success.
+/// - 1 if the command was refused, with a line on `err` that begins with `refused `. With `--why`, that line follows
+///   one with the reason. With `--json`, the refusal is also an object on `out`, except for `feed`.
+/// - 2 for wrong usage, which is printed to `err` before anything is read or written.
 ///
-/// `feed`, `tape`, `explain`, `cost` and `sim` wait for nobody. `check` and `run` hold a ring's lock for each call, and `run` starts threads.
+/// Help and the version go to `out` if they are requested. A command with a FILE reads it instead of `input`.
+///
+/// With `--progress`, or if standard error is a terminal and standard output is not, `feed`, `tape`, `run` and `sim`
+/// report their progress about once a second, on the runtime's standard error and not on `err`, and erase it at the
+/// end. If standard error is a terminal, `--why` is the default, which `--no-why` turns off.
+///
+/// `feed`, `tape`, `explain`, `cost` and `sim` never wait for another thread. `check` and `run` hold a ring's lock
+/// during each call, and `run` and `stream` start threads.
 pub fn command<
     T,
     F: Read + Write + Send + Drop,
@@ -70,7 +76,7 @@ where
     }
 }
 
-// Prints the help or the version where that was asked for, and else why the words name no command.
+// Prints the help or the version if it was requested, and otherwise why the words name no command. Returns the status.
 fn print_usage<W: Write, E: Write>(error: &Error, out: &mut W, err: &mut E) -> u8
     ensures status { result ≤ 2 }
     ensures usage { result ≡ 2 → Keeps (W.contents out.old) (W.contents out.new) }
@@ -91,7 +97,7 @@ fn print_usage<W: Write, E: Write>(error: &Error, out: &mut W, err: &mut E) -> u
     }
 }
 
-// The line of a refusal.
+// Prints the line of a refusal, and returns the status.
 fn print_refusal<E: Write>(refusal: &CommandRefusal, err: &mut E) -> u8
     ensures { result ≡ 1 }
 {
@@ -99,7 +105,7 @@ fn print_refusal<E: Write>(refusal: &CommandRefusal, err: &mut E) -> u8
     1
 }
 
-// Carries out a command over the file that it is to read, or else over this input.
+// Executes a command over the file that it reads, or over this input if it has none.
 fn carry_out_over<T, F: Read + Write + Send + Drop, R: Read, W: Write, E: Write>(
     rt: &T,
     alloc: Global,
@@ -125,7 +131,7 @@ where
     }
 }
 
-// Carries out a command over this input, and tells its refusal.
+// Executes a command over this input, and prints its refusal.
 fn carry_out<T, F: Write + Send + Drop, R: Read, W: Write, E: Write>(
     rt: &T,
     alloc: Global,
@@ -164,7 +170,8 @@ where
     }
 }
 
-// The jobs of a run that writes a tape, if it is to be told how far the run is and there is memory to count them.
+// Returns a counter for the jobs of a run that writes a tape, if the run reports its progress and memory for the
+// counter can be allocated.
 fn taped_jobs(alloc: Global, asked: &CommandLine<'_>) -> Option<TapedJobs> {
     match asked.request {
         Subcommand::Run {
@@ -175,7 +182,8 @@ fn taped_jobs(alloc: Global, asked: &CommandLine<'_>) -> Option<TapedJobs> {
     }
 }
 
-// What a command answers, once what it told beside its output is written.
+// Writes the text that a command left besides its output, and returns the command's result. If the write fails, that is
+// a refusal too.
 fn and_told<E: Write>(
     answer: Result<Option<(u64, u64)>, CommandRefusal>,
     told: &[u8],
@@ -187,7 +195,7 @@ fn and_told<E: Write>(
     Err(CommandRefusal::Jobs(JobsFault::Program(ProgramFault::Device)))
 }
 
-// Tells a refusal: its reason and its object where they are asked for, and its line.
+// Prints a refusal: its reason and its object if they are requested, and its line. Returns the status.
 fn tell_refusal<W: Write, E: Write>(
     alloc: Global,
     refusal: &CommandRefusal,
@@ -217,7 +225,8 @@ fn tell_refusal<W: Write, E: Write>(
     status
 }
 
-// Checks a program, and tells where Linux refuses it where that is asked for. The gate is that of `run`, which tells nothing here.
+// Checks a program, and prints where Linux refuses it if that is requested. The gate (a hook that is called before each
+// helper call) is that of `run`, and reports nothing here.
 fn checked<T: Wait + Clock + Eprint, R: Read, W: Write>(
     rt: &T,
     alloc: Global,
@@ -235,7 +244,7 @@ fn checked<T: Wait + Clock + Eprint, R: Read, W: Write>(
     }
 }
 
-// Explains a program, and tells where Linux refuses it where that is asked for.
+// Explains a program, and prints where Linux refuses it if that is requested.
 fn explained<R: Read, W: Write>(
     alloc: Global,
     input: &mut R,
@@ -251,7 +260,8 @@ fn explained<R: Read, W: Write>(
     }
 }
 
-// What a command answers: where the tape of `feed` ends, or why it was refused. What goes to standard error beside its output is left in `told`.
+// Executes a command. Returns where the tape of `feed` ends, or why the command was refused. Leaves the text for
+// standard error, besides the output, in `told`.
 fn answer<T, F: Write + Send + Drop, R: Read, W: Write>(
     rt: &T,
     alloc: Global,
@@ -313,7 +323,7 @@ where
     }
 }
 
-// Writes the tape of the payloads, and tells how far it is: where the tape ends, or why it was refused.
+// Writes the tape of the payloads, and reports the progress. Returns where the tape ends, or why it was refused.
 fn feed_metered<T: Clock + Eprint, R: Read, W: Write>(
     alloc: Global,
     input: &mut R,
@@ -332,7 +342,7 @@ fn feed_metered<T: Clock + Eprint, R: Read, W: Write>(
     }
 }
 
-// The answer of a command over a program.
+// Returns the result of a command over a program.
 fn of_program(answer: Result<(), ProgramFault>) -> Result<Option<(u64, u64)>, CommandRefusal> {
     match answer {
         Ok(()) => Ok(None),
@@ -340,7 +350,7 @@ fn of_program(answer: Result<(), ProgramFault>) -> Result<Option<(u64, u64)>, Co
     }
 }
 
-// The answer of a run.
+// Returns the result of a run.
 fn of_jobs(answer: Result<(), JobsFault>) -> Result<Option<(u64, u64)>, CommandRefusal> {
     match answer {
         Ok(()) => Ok(None),
@@ -348,7 +358,7 @@ fn of_jobs(answer: Result<(), JobsFault>) -> Result<Option<(u64, u64)>, CommandR
     }
 }
 
-// Tells where a tape ends that `feed` wrote: the producer's position and the consumer's.
+// Prints where a tape that `feed` wrote ends: the producer position and the consumer position. Returns the status.
 fn print_end<E: Write>(err: &mut E, end: (u64, u64), form: LineForm) -> u8
     ensures { result ≤ 1 }
 {
@@ -363,7 +373,7 @@ fn print_end<E: Write>(err: &mut E, end: (u64, u64), form: LineForm) -> u8
     }
 }
 
-// Runs a script, and says what was expected at a line that is refused, where that is asked for.
+// Runs a script. Stores what was expected at a line that is refused, if reasons or objects are requested.
 fn sim_told<T: Clock + Eprint, R: Read, W: Write>(
     alloc: Global,
     input: &mut R,
@@ -392,7 +402,7 @@ fn sim_told<T: Clock + Eprint, R: Read, W: Write>(
     answer
 }
 
-// Runs a script, and prints an object for each line, also of those before memory ran out.
+// Runs a script and prints an object for each line, including those before memory ran out.
 fn sim_objects<T: Clock + Eprint, W: Write>(
     alloc: Global,
     mut script: &[u8],
@@ -404,7 +414,7 @@ fn sim_objects<T: Clock + Eprint, W: Write>(
     let answer = sim(alloc, &mut script, &mut lines, draw, progress);
     print_objects(alloc, lines.as_slice(), out)?;
     match answer {
-        // A list fails for want of memory alone.
+        // A write to a list fails only if memory can't be allocated.
         Err(SimFault::Device) => Err(SimFault::Memory),
         answer => answer,
     }

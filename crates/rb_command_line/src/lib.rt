@@ -1,7 +1,7 @@
-//! The command line of `rbhost`: which command its words name, and which status it ends with.
+//! The command line of `rbhost`: the command that its words name, and the status with which it ends.
 //!
-//! For the program, and for tests of it over readers and writers in memory. What is promised: a status of 0 to 2, and that wrong usage
-//! reads and prints nothing.
+//! For the program, and for tests of it over readers and writers in memory. Proved: the status is 0 to 2, and wrong
+//! usage reads nothing from the input and prints nothing to the output.
 #![tactic(auto)]
 
 mod bounds;

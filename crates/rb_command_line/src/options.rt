@@ -1,11 +1,11 @@
-//! What the command line may say.
+//! The commands and options of the command line.
 
 use crate::stream_options::stream;
 use clap::{Arg, ArgAction, Command};
 use rb_version::VERSION;
 use std::alloc::{AllocError, Global};
 
-/// The commands with their options.
+/// Returns the commands with their options.
 pub(crate) fn program<'a>(alloc: Global) -> Result<Command<'a>, AllocError> {
     let program = Command::new(alloc, "rbhost")
         .version(VERSION)
@@ -23,7 +23,7 @@ pub(crate) fn program<'a>(alloc: Global) -> Result<Command<'a>, AllocError> {
     with(program, stream(alloc))
 }
 
-/// The command of this name, by itself.
+/// Returns the command with this name.
 pub(crate) fn subcommand<'a>(alloc: Global, name: &str) -> Result<Command<'a>, AllocError> {
     let bin_name = format!(in alloc; "rbhost {name}")?;
     let command = match name {
@@ -39,7 +39,7 @@ pub(crate) fn subcommand<'a>(alloc: Global, name: &str) -> Result<Command<'a>, A
     command.bin_name(bin_name.as_str())
 }
 
-// The program with one command more.
+// Returns the program with one more command.
 fn with<'a>(
     program: Command<'a>,
     command: Result<Command<'a>, AllocError>,
@@ -276,7 +276,7 @@ fn draw<'a>(alloc: Global) -> Arg<'a> {
         .help("Draw each ring as a line behind each turn")
 }
 
-// An option with a value.
+// Returns an option with a value.
 fn option<'a>(alloc: Global, name: &'a str) -> Arg<'a> {
     Arg::new(alloc, name).long(name).action(ArgAction::Set)
 }

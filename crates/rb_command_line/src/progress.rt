@@ -1,5 +1,7 @@
-//! How far a long command is, printed on standard error about once a second. It goes to the runtime's standard error and not to the command's writer, since
-//! workers print it while the command waits for them. Tests show what is printed; no contract speaks of it.
+//! The progress of a long command, printed on standard error about once a second.
+//!
+//! It goes to the runtime's standard error and not to the command's writer, because workers print it while the command
+//! waits for them. Tests show what is printed; no contract mentions it.
 
 use crate::taped_jobs::{JOBS, TapedJobs};
 use rb_run_commands::TapeWatch;
@@ -10,26 +12,28 @@ use std::io::{Eprint, Read};
 use std::sync::atomic::{AtomicU64, Ordering};
 use std::time::Clock;
 
-/// How many turns of a script pass before the clock is looked at.
+/// The number of turns of a script between two looks at the clock.
 const TURNS: u64 = 256;
 
-/// Tells how far a command is, where that is asked for.
+/// Reports the progress of a command, if that is requested.
 pub(crate) struct Progress<'a, T> {
     rt: &'a T,
     is_on: bool,
-    // How many jobs a run has in all, and how many of them have ended, but for the last few of each worker; or how many turns have.
+    // The number of jobs of a run in all, and how many of them have ended, except for the last few of each worker; or
+    // how many turns have.
     jobs: u64,
     ended: AtomicU64,
     // The jobs of a run that writes a tape.
     taped: Option<TapedJobs>,
-    // When it began, in seconds of the clock, and the last second of which something was told, counted from then.
+    // The time at which the command began, in seconds of the clock, and the last second in which something was
+    // reported, counted from then.
     began: u64,
     told: AtomicU64,
 }
 
 impl<'a, T: Clock + Eprint> Progress<'a, T> {
-    /// Begins now, for a command with so many jobs, which are counted once their records are on the tape if there is one; nothing is told within
-    /// the first second, nor if it is off.
+    /// Begins now, for a command with `jobs` jobs. If the command writes a tape, they are counted once their records
+    /// are on it. Nothing is reported within the first second, or if `is_on` is false.
     pub(crate) fn new(
         rt: &'a T,
         is_on: bool,
@@ -47,14 +51,15 @@ impl<'a, T: Clock + Eprint> Progress<'a, T> {
         }
     }
 
-    // Whether a second has gone by since something was told; of two threads that ask at once it has for one.
+    // Returns whether a second has passed since the last report. If two threads call it at once, it returns true to
+    // only one of them.
     fn is_due(&self) -> bool {
         let second = seconds(self.rt).saturating_sub(self.began);
         second > self.told.load(Ordering::SeqCst)
             && second > self.told.swap(second, Ordering::SeqCst)
     }
 
-    // Tells how many bytes were read, in the place of what was told before.
+    // Reports how many bytes were read, in place of the previous report.
     fn tell_bytes(&self, count: u64) {
         if self.is_on && self.is_due() {
             let _ = eprint!(self.rt; "\r{count} bytes read\x1b[K");
@@ -63,20 +68,20 @@ impl<'a, T: Clock + Eprint> Progress<'a, T> {
 
     #[cold]
     #[inline(never)]
-    // Tells how many of so many parts have ended, likewise.
+    // Reports how many of `all` parts have ended, in the same way.
     fn tell_parts(&self, ended: u64, all: u64, what: &'static str) {
         if self.is_due() {
             let _ = eprint!(self.rt; "\r{ended} of {all} {what}\x1b[K");
         }
     }
 
-    // Counts more parts as ended, and answers how many have.
+    // Counts `count` more parts as ended, and returns how many have ended.
     fn add(&self, count: u64) -> u64 {
         let before = self.ended.fetch_add(count, Ordering::SeqCst);
         before.saturating_add(count)
     }
 
-    // How many of the jobs that have ended may be reported: with a tape those whose records are on it.
+    // Returns how many of the jobs that have ended may be reported: with a tape, those whose records are on it.
     fn reportable(&self, ended: u64) -> u64 {
         match &self.taped {
             Some(taped) => taped.written(),
@@ -84,7 +89,7 @@ impl<'a, T: Clock + Eprint> Progress<'a, T> {
         }
     }
 
-    /// Takes away what was told last.
+    /// Erases the last report.
     pub(crate) fn end(self) {
         let Progress {
             rt,
@@ -101,7 +106,7 @@ impl<'a, T: Clock + Eprint> Progress<'a, T> {
     }
 }
 
-// The seconds of the clock, and 0 where it can't be read.
+// Returns the seconds of the clock, or 0 if it can't be read.
 fn seconds<T: Clock>(rt: &T) -> u64 {
     match rt.monotonic() {
         Ok(time) => time.as_secs(),
@@ -147,7 +152,7 @@ impl<T: Clock + Eprint> TurnWatch for Progress<'_, T> {
     }
 }
 
-/// Reads what another reader gives, and tells how many bytes that were.
+/// A reader that passes on the bytes of another one, and reports how many it has read.
 pub(crate) struct Metered<'a, R, T> {
     reader: R,
     progress: &'a Progress<'a, T>,
@@ -157,7 +162,7 @@ pub(crate) struct Metered<'a, R, T> {
 impl<'a, R, T> Metered<'a, R, T> {
     ghost use Rattle.std.specs.Prelude.{◌≡◌};
 
-    /// A reader over this one.
+    /// Returns a reader over this one.
     pub(crate) fn new(reader: R, progress: &'a Progress<'a, T>) -> Metered<'a, R, T>
         ensures { result.reader ≡ reader }
     {

@@ -1,4 +1,4 @@
-//! The reason of a refusal, in words for people: the one place where each is worded.
+//! The reasons of refusals, in words for people. Each is worded here and nowhere else.
 
 use crate::bounds::{SIZES, STARTS, WORKERS};
 use crate::refusal::Cause;
@@ -11,16 +11,16 @@ use rb_tape::TapeKind;
 use std::alloc::{AllocError, Global};
 use std::io::Error;
 
-/// What was seen of a command's input and of what it wrote to.
+/// What was observed of a command's input and outputs.
 #[derive(Default, Drop)]
 pub(crate) struct Seen {
     /// The front of the input.
     pub front: Front,
-    /// Why the input could not be opened.
+    /// The error with which the input could not be opened.
     pub opening: Option<Error>,
-    /// The error of the last read of the input, where it failed.
+    /// The error of the last read of the input, if it failed.
     pub reading: Option<Error>,
-    /// The error of the last write to standard output, where it failed.
+    /// The error of the last write to standard output, if it failed.
     pub printing: Option<Error>,
     /// What failed at the file of a tape.
     pub file: Option<TapeFileFault>,
@@ -29,7 +29,7 @@ pub(crate) struct Seen {
 }
 
 impl Seen {
-    /// What was seen of an input that could not be opened.
+    /// Returns what was observed of an input that could not be opened.
     pub(crate) fn of_unopened(error: Error) -> Seen {
         Seen {
             front: Front::default(),
@@ -42,7 +42,7 @@ impl Seen {
     }
 }
 
-/// The reason of a refusal: what was asked for, with its bounds, or what was seen.
+/// Returns the reason of a refusal: what was requested, with its bounds, or what was observed.
 pub(crate) fn reason_of(
     alloc: Global,
     cause: Cause,
@@ -53,7 +53,7 @@ pub(crate) fn reason_of(
     input_reason(alloc, cause, &asked.request, name.as_str(), seen)
 }
 
-// The name of the input.
+// Returns the name of the input.
 fn input_name(alloc: Global, file: Option<&str>) -> Result<String, AllocError> {
     match file {
         Some(path) => printable(alloc, path),
@@ -61,7 +61,7 @@ fn input_name(alloc: Global, file: Option<&str>) -> Result<String, AllocError> {
     }
 }
 
-// The reason of a refusal, by the name of the input.
+// Returns the reason of a refusal, given the name of the input.
 fn input_reason(
     alloc: Global,
     cause: Cause,
@@ -109,7 +109,7 @@ fn input_reason(
     }
 }
 
-// Where a program's author finds more.
+// Returns where the author of a program finds out more.
 fn mending(request: &Subcommand<'_>) -> &'static str {
     match request {
         Subcommand::Explain { .. } => "standard output has what it wants and how programs mend it",
@@ -117,7 +117,7 @@ fn mending(request: &Subcommand<'_>) -> &'static str {
     }
 }
 
-// What a program of `run` is verified for, which no option changes.
+// Returns what a program of `run` is verified for, which no option changes.
 fn fixed_bounds(request: &Subcommand<'_>) -> &'static str {
     match request {
         Subcommand::Run { .. } => "; a job of `run` has a context of 16 bytes and one ring",
@@ -125,7 +125,7 @@ fn fixed_bounds(request: &Subcommand<'_>) -> &'static str {
     }
 }
 
-// An option with its value and its bounds.
+// Returns an option with its value and its bounds.
 fn option_reason(
     alloc: Global,
     name: &str,
@@ -135,7 +135,7 @@ fn option_reason(
     format!(in alloc; "--{name} {value}: {bounds}")
 }
 
-// Why a text is no program in hex.
+// Returns why a text is not a program in hex.
 fn text_reason(alloc: Global, input: &str, front: Front) -> Result<String, AllocError> {
     match front.odd {
         Some((0, 0x7f)) => format!(in alloc;
@@ -156,7 +156,7 @@ fn text_reason(alloc: Global, input: &str, front: Front) -> Result<String, Alloc
     }
 }
 
-// Why a program has no length.
+// Returns why the number of a program's bytes is wrong.
 fn length_reason(alloc: Global, input: &str, front: Front) -> Result<String, AllocError> {
     if front.digits == 0 {
         return format!(in alloc;
@@ -170,7 +170,7 @@ fn length_reason(alloc: Global, input: &str, front: Front) -> Result<String, All
     )
 }
 
-// Why a payload does not fit into a ring of this size.
+// Returns why a payload does not fit in a ring of this size.
 fn fit_reason(alloc: Global, payload: u64, size: u64) -> Result<String, AllocError> {
     let most = size.saturating_sub(16);
     format!(in alloc;
@@ -178,7 +178,7 @@ fn fit_reason(alloc: Global, payload: u64, size: u64) -> Result<String, AllocErr
     )
 }
 
-// What is wrong with a record of a tape.
+// Returns what is wrong with a record of a tape.
 fn record_words(kind: TapeKind) -> &'static str {
     match kind {
         TapeKind::Busy => "its header has the busy bit, which no record that was taken has",
@@ -206,7 +206,7 @@ fn memory_reason(alloc: Global, request: &Subcommand<'_>) -> Result<String, Allo
     }
 }
 
-// Which operation failed at which file, and the system's words.
+// Returns which operation failed on which file, with the system's message.
 fn device_reason(
     alloc: Global,
     request: &Subcommand<'_>,
@@ -236,7 +236,7 @@ fn device_reason(
     }
 }
 
-// What failed at the file of a tape.
+// Returns what failed at the file of a tape.
 fn file_reason(alloc: Global, path: &str, fault: TapeFileFault) -> Result<String, AllocError> {
     let path = printable(alloc, path)?;
     match fault {
@@ -254,7 +254,7 @@ fn file_reason(alloc: Global, path: &str, fault: TapeFileFault) -> Result<String
     }
 }
 
-// The name of a file, quoted where it has what would break a line.
+// Returns the name of a file, quoted if it has control characters, which would break a line.
 fn printable(alloc: Global, path: &str) -> Result<String, AllocError> {
     if path.chars().any(|c| c.is_control()) {
         return format!(in alloc; "{path:?}");
@@ -262,7 +262,7 @@ fn printable(alloc: Global, path: &str) -> Result<String, AllocError> {
     String::from_str(alloc, path)
 }
 
-// The system's words for an error, without its number.
+// Returns the system's message for an error, without its number.
 fn words_of(alloc: Global, error: Error) -> Result<String, AllocError> {
     let text = format!(in alloc; "{error}")?;
     match text.as_str().split_once(" (os error") {

@@ -1,4 +1,4 @@
-//! A refusal of any command, as one value.
+//! The refusal of any command, as one value.
 
 use rb_json::{push_field, push_text};
 use rb_loader::ProgramFault;
@@ -10,59 +10,59 @@ use rb_tape_commands::{FeedFault, TapeRefusal};
 use std::alloc::{AllocError, Global};
 use thiserror::Error;
 
-/// A refusal of any command, which is told as the command's own is.
+/// The refusal of any command, which is displayed like the command's own.
 #[derive(Clone, Copy, Debug, PartialEq, Eq, Error)]
 pub(crate) enum CommandRefusal {
-    /// Of `feed`.
+    /// A refusal of `feed`.
     #[error("{0}")]
     Feed(FeedFault),
-    /// Of `tape`.
+    /// A refusal of `tape`.
     #[error("{0}")]
     Tape(TapeRefusal),
-    /// Of `check`, `explain` and `cost`.
+    /// A refusal of `check`, `explain` or `cost`.
     #[error("{0}")]
     Program(ProgramFault),
-    /// Of `run`.
+    /// A refusal of `run`.
     #[error("{0}")]
     Jobs(JobsFault),
-    /// Of `sim`.
+    /// A refusal of `sim`.
     #[error("{0}")]
     Sim(SimFault),
 }
 
-/// What a command was refused for, whichever it is.
+/// Why a command was refused, for any command.
 #[derive(Clone, Copy, Debug, PartialEq, Eq)]
 pub(crate) enum Cause {
-    /// The program's text is no hex.
+    /// The program's text is not hex.
     Text,
     /// The program's bytes have a fault at this unit.
     Decode(DecodeKind, u32),
     /// The program's shape has a fault at this unit.
     Shape(ShapeFaultKind, u32),
-    /// The rule of this number is broken at this unit.
+    /// The rule with this number is broken at this unit.
     Verify(u32, u32),
-    /// The ring's size.
+    /// The ring's size is wrong.
     Size,
-    /// The ring's first position.
+    /// The ring's first position is wrong.
     Start,
-    /// The number of workers.
+    /// The number of workers is wrong.
     Workers,
-    /// A record of the tape, with how many bytes stand before it.
+    /// A record of the tape has a fault. The second number is the number of bytes before the record.
     Record(TapeKind, u64),
-    /// The payload of this number does not fit.
+    /// The payload with this number does not fit in the ring.
     Fit(u64),
-    /// The input ends inside the payload of this number.
+    /// The input ends inside the payload with this number.
     Ends(u64),
-    /// The line of this number, counted from 1.
+    /// The line with this number, counted from 1, is refused.
     Line(usize),
-    /// Out of memory.
+    /// Memory could not be allocated.
     Memory,
-    /// A read or a write failed, or a file could not be made.
+    /// A read or a write failed, or a file could not be opened or created.
     Device,
 }
 
 impl CommandRefusal {
-    /// What it is for.
+    /// Returns the cause of the refusal.
     pub(crate) fn cause(&self) -> Cause {
         match *self {
             CommandRefusal::Feed(fault) => feed_cause(fault),
@@ -123,7 +123,7 @@ fn sim_cause(fault: SimFault) -> Cause {
     }
 }
 
-/// The refusal as an object of JSON, with the reason where there is one.
+/// Returns the refusal as a JSON object, with the reason if there is one.
 pub(crate) fn object_of(
     alloc: Global,
     cause: Cause,
@@ -140,7 +140,7 @@ pub(crate) fn object_of(
     Ok(line)
 }
 
-// What is refused, and the fields behind it.
+// Appends the kind of the refusal, and the fields after it.
 fn push_fields(alloc: Global, line: &mut Vec<u8>, cause: Cause) -> Result<(), AllocError> {
     match cause {
         Cause::Text => line.extend_from_slice(b"\"text\""),

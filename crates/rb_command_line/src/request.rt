@@ -1,4 +1,4 @@
-//! What the words of the command line ask for.
+//! What the words of the command line request.
 
 ghost use Rattle.std.specs.Prelude.{◌<◌, ◌^◌};
 ghost use Rattle.std.specs.Option.{SomeIff};
@@ -20,43 +20,49 @@ use std::convert::AsStr;
 /// A command with its options.
 #[derive(Clone, Copy)]
 pub(crate) enum Subcommand<'a> {
-    /// Writes the tape of payloads: the ring's size and its first position, how often writing goes on after a write that failed, and how its end is told.
+    /// Writes the tape of payloads, of a ring with this size and first position. Failed writes are retried this often
+    /// in all, and the end of the tape is printed in this form.
     Feed {
         size: u64,
         start: u64,
         retries: u32,
         form: LineForm,
     },
-    /// Prints the records of a tape: the ring's size and its first position, and how a record is printed.
+    /// Prints the records of a tape, of a ring with this size and first position, in this form.
     Tape {
         size: u64,
         start: u64,
         form: LineForm,
     },
-    /// Verifies a program and runs it once, how what came of it is printed, and whether it is told where Linux refuses the program.
+    /// Verifies a program within these bounds, runs it once, and prints the outcome in this form; if `portable`, also
+    /// where Linux refuses the program.
     Check {
         bounds: Bounds,
         form: LineForm,
         portable: bool,
     },
-    /// Explains a program, how what is explained is printed, and whether it is told where Linux refuses the program.
+    /// Explains a program, verified within these bounds, in this form; if `portable`, also prints where Linux refuses
+    /// the program.
     Explain {
         bounds: Bounds,
         form: LineForm,
         portable: bool,
     },
-    /// Prints what a program can cost at most: how it is printed, and the jobs for which a ring's size is chosen, where that is asked for.
+    /// Prints the most that a program can cost, verified within these bounds, in this form. If there are jobs, also
+    /// chooses the size of a ring for them.
     Cost {
         bounds: Bounds,
         form: LineForm,
         jobs: Option<JobsAtOnce>,
     },
-    /// Verifies a program and runs it as jobs on threads, and writes what they sent as a tape to the file of this name, where there is one.
+    /// Verifies a program and runs it as these jobs on threads. If there is a file name, writes the records that the
+    /// ring's consumer takes to that file as a tape.
     Run {
         jobs: JobsRequest,
         tape: Option<&'a str>,
     },
-    /// Runs a script of workers and rings in turns, whether the rings are drawn behind each, and how what is found is printed.
+    /// Runs a script of workers and rings in turns, and prints what happens in this form; if `draw`, also draws the
+    /// rings after each turn.
     Sim {
         draw: bool,
         form: LineForm,
@@ -64,7 +70,7 @@ pub(crate) enum Subcommand<'a> {
 }
 
 impl Subcommand<'_> {
-    /// The size that is asked for, and 0 where none is.
+    /// Returns the size that is requested, or 0 if none is.
     pub(crate) fn size(&self) -> u64 {
         match *self {
             Subcommand::Feed { size, .. } | Subcommand::Tape { size, .. } => size,
@@ -73,7 +79,7 @@ impl Subcommand<'_> {
         }
     }
 
-    /// The first position that is asked for, and 0 where none is.
+    /// Returns the first position that is requested, or 0 if none is.
     pub(crate) fn start(&self) -> u64 {
         match *self {
             Subcommand::Feed { start, .. } | Subcommand::Tape { start, .. } => start,
@@ -82,7 +88,7 @@ impl Subcommand<'_> {
         }
     }
 
-    /// How many workers are asked for, and 0 where none are.
+    /// Returns the number of workers that is requested, or 0 if none is.
     pub(crate) fn workers(&self) -> u64 {
         match *self {
             Subcommand::Run { jobs, .. } => jobs.workers,
@@ -90,7 +96,7 @@ impl Subcommand<'_> {
         }
     }
 
-    /// How many jobs there are in all, and 0 where none are asked for.
+    /// Returns the number of jobs in all, or 0 if none are requested.
     pub(crate) fn jobs(&self) -> u64 {
         match *self {
             Subcommand::Run { jobs, .. } => jobs.workers.saturating_mul(u64::from(jobs.jobs)),
@@ -98,7 +104,7 @@ impl Subcommand<'_> {
         }
     }
 
-    /// The name of the file for a tape, and an empty one where none is asked for.
+    /// Returns the name of the file for a tape, or an empty one if no tape is requested.
     pub(crate) fn tape(&self) -> &str {
         match *self {
             Subcommand::Run {
@@ -109,7 +115,7 @@ impl Subcommand<'_> {
         }
     }
 
-    /// Whether it may take long, and has the option to tell how far it is.
+    /// Returns whether the command may take long, and has the option to report its progress.
     pub(crate) fn is_long(&self) -> bool {
         matches!(
             self,
@@ -120,7 +126,7 @@ impl Subcommand<'_> {
         )
     }
 
-    /// How what is found is printed.
+    /// Returns the form of the output.
     pub(crate) fn form(&self) -> LineForm {
         match *self {
             Subcommand::Feed { form, .. }
@@ -133,36 +139,37 @@ impl Subcommand<'_> {
         }
     }
 
-    /// Whether a refusal is printed as an object too: where lines are, but not among the bytes of a tape that `feed` writes.
+    /// Returns whether a refusal is also printed as an object: if the output has lines, but not among the bytes of a
+    /// tape that `feed` writes.
     pub(crate) fn prints_object(&self) -> bool {
         self.form() == LineForm::Json && !matches!(self, Subcommand::Feed { .. })
     }
 }
 
-/// What the command line asks for.
+/// What the command line requests.
 #[derive(Clone, Copy)]
 pub(crate) struct CommandLine<'a> {
     /// The command.
     pub request: Subcommand<'a>,
-    /// The file that is read in the place of standard input.
+    /// The file that is read instead of standard input.
     pub file: Option<&'a str>,
     /// Whether the reason of a refusal is printed.
     pub why: bool,
-    /// Whether it is told how far a long command is.
+    /// Whether the progress of a long command is reported.
     pub progress: bool,
 }
 
-/// A command, whichever it is.
+/// Any command.
 #[derive(Drop)]
 pub(crate) enum ParsedCommand<'a> {
-    /// Any but `stream`.
+    /// A command other than `stream`.
     Command(CommandLine<'a>),
     /// A stream.
     Stream(StreamOptions<'a>),
 }
 
-/// The command that these words name, which follow the program's name on the command line. An error is help or the version that was
-/// asked for, wrong usage, or out of memory.
+/// Returns the command that these words name, which follow the program's name on the command line. An error is help or
+/// the version that was requested, wrong usage, or a failed allocation.
 pub(crate) fn parse<'a, S: AsStr>(
     alloc: Global,
     words: &'a [S],
@@ -191,7 +198,7 @@ pub(crate) fn parse<'a, S: AsStr>(
     }))
 }
 
-// What the command of this name asks for, by its options.
+// Returns what the command with this name requests, by its options.
 fn command_request<'a>(
     alloc: Global,
     name: &str,
@@ -259,7 +266,7 @@ impl<'a> Values<'_, 'a> {
         })
     }
 
-    // What a program is verified for.
+    // Returns the limits for which a program is verified.
     fn bounds(&self) -> Result<Bounds, Error> {
         Ok(Bounds {
             ctx_len: self.bounded("ctx", 0, 65_536)?,
@@ -267,7 +274,7 @@ impl<'a> Values<'_, 'a> {
         })
     }
 
-    // What is run, and over which ring.
+    // Returns the jobs to run, and the ring to run them over.
     fn jobs(&self) -> Result<JobsRequest, Error> {
         Ok(JobsRequest {
             workers: self.number("workers", "a decimal number from 1 to 256")?,
@@ -278,7 +285,8 @@ impl<'a> Values<'_, 'a> {
         })
     }
 
-    // The jobs for which a ring's size is chosen, where that is asked for: the one option comes with the other.
+    // Returns the jobs for which a ring's size is chosen, if that is requested. The two options are only accepted
+    // together.
     fn jobs_at_once(&self) -> Result<Option<JobsAtOnce>, Error> {
         if self.options.get_str("workers").is_none() {
             return Ok(None);
@@ -289,7 +297,7 @@ impl<'a> Values<'_, 'a> {
         }))
     }
 
-    // How lines of output are written.
+    // Returns the form of the output.
     fn form(&self) -> LineForm {
         if self.options.get_flag("json") {
             LineForm::Json
@@ -309,7 +317,7 @@ impl<'a> Values<'_, 'a> {
         self.number("start", STARTS)
     }
 
-    // The number that an option has, any below 2^64. What it is refused for otherwise comes later.
+    // Returns the number that an option has, which may be any below 2^64. Other bounds are tested later.
     fn number(&self, name: &str, wanted: &str) -> Result<u64, Error> {
         match self.options.get_str(name).and_then(decimal) {
             Some(number) => Ok(number),
@@ -317,7 +325,7 @@ impl<'a> Values<'_, 'a> {
         }
     }
 
-    // The number that an option has, which is bounded. That of a context is a count of bytes.
+    // Returns the number that an option has, if it is within these bounds. The number of `ctx` is a number of bytes.
     pub(crate) fn bounded(&self, name: &str, least: u32, most: u32) -> Result<u32, Error>
         ensures { IfOk result (λ n. (least ≤ n) × (n ≤ most)) }
     {
@@ -334,18 +342,18 @@ impl<'a> Values<'_, 'a> {
         }
     }
 
-    // The error of an option whose value is no number that it takes.
+    // Returns the error for an option whose value is not a number within these bounds.
     fn out_of_bounds(&self, name: &str, least: u32, most: u32) -> Result<Error, AllocError> {
         let wanted = format!(in self.alloc; "a decimal number from {least} to {most}")?;
         self.refused(name, wanted.as_str())
     }
 
-    // The error of an option whose value is none that it takes.
+    // Returns the error for an option whose value is not one that it accepts.
     pub(crate) fn refused(&self, name: &str, wanted: &str) -> Result<Error, AllocError> {
         self.wrong(name, self.options.get_str(name).unwrap_or(""), wanted)
     }
 
-    // The error of this value of an option.
+    // Returns the error for this value of an option.
     pub(crate) fn wrong(&self, name: &str, value: &str, wanted: &str) -> Result<Error, AllocError> {
         let message = format!(in self.alloc; "the value '{value}' of '--{name}' is not {wanted}")?;
         let mut command = subcommand(self.alloc, self.command)?;
@@ -353,7 +361,7 @@ impl<'a> Values<'_, 'a> {
     }
 }
 
-// The number that decimal digits spell, if it is below 2^64. `parse` alone would take a plus in front.
+// Returns the number that decimal digits spell, if it is below 2^64. `parse` alone would accept a leading plus.
 fn decimal(text: &str) -> Option<u64>
     ensures { SomeIff result (IsNumeral 10 text.now × (digits_value 10 text.now < 2 ^ 64)) (digits_value 10 text.now) }
 {
@@ -363,7 +371,8 @@ fn decimal(text: &str) -> Option<u64>
     text.parse().ok()
 }
 
-// How many bytes a text names: a decimal number, of KiB with a `K` behind it and of MiB with an `M`.
+// Returns the number of bytes that a text names: a decimal number, of KiB if a `K` follows and of MiB if an `M`
+// follows.
 pub(crate) fn byte_count(text: &str) -> Option<u64> {
     if let Some(kilobytes) = text.strip_suffix('K') {
         return decimal(kilobytes)?.checked_mul(1 << 10);

@@ -1,4 +1,5 @@
-//! The lines of `sim` as objects of JSON. What the lines of words say is proved where they are made; that each object says the same is shown by rows.
+//! The lines of `sim` as JSON objects. The contents of the lines in words are proved where the lines are created; tests
+//! show that each object has the same contents.
 
 use rb_io::write_whole;
 use rb_json::{push_number, push_payload};
@@ -6,7 +7,7 @@ use rb_script::SimFault;
 use std::alloc::{AllocError, Global};
 use std::io::Write;
 
-/// Prints an object for each of the lines, which `sim` made.
+/// Prints an object for each of the lines, which `sim` created.
 pub(crate) fn print_objects<W: Write>(
     alloc: Global,
     lines: &[u8],
@@ -27,7 +28,7 @@ pub(crate) fn print_objects<W: Write>(
     }
 }
 
-// Adds the object of a line.
+// Appends the object of a line.
 fn push_object(alloc: Global, objects: &mut Vec<u8>, line: &str) -> Result<(), AllocError> {
     let mut words = Words { rest: line };
     let kind = words.next();
@@ -44,7 +45,7 @@ fn push_object(alloc: Global, objects: &mut Vec<u8>, line: &str) -> Result<(), A
     objects.extend_from_slice(b"}\n")
 }
 
-// The words of a line, and empty ones behind it.
+// The words of a line, followed by empty ones.
 #[derive(Clone, Copy)]
 struct Words<'a> {
     rest: &'a str,
@@ -66,12 +67,12 @@ impl<'a> Words<'a> {
     }
 }
 
-// Adds a number that these digits spell.
+// Appends the number that these digits spell.
 fn push_digits(objects: &mut Vec<u8>, digits: &str) -> Result<(), AllocError> {
     push_number(objects, digits.parse().unwrap_or(0))
 }
 
-// Adds a field with a number.
+// Appends a field with a number.
 fn push_named(objects: &mut Vec<u8>, name: &str, digits: &str) -> Result<(), AllocError> {
     objects.extend_from_slice(b",\"")?;
     objects.extend_from_slice(name.as_bytes())?;
@@ -79,7 +80,7 @@ fn push_named(objects: &mut Vec<u8>, name: &str, digits: &str) -> Result<(), All
     push_digits(objects, digits)
 }
 
-// Adds a field for each name with the number behind it.
+// Appends a field for each name, with the number that follows it.
 fn push_pairs(objects: &mut Vec<u8>, words: &mut Words<'_>) -> Result<(), AllocError> {
     for _ in 0..words.rest.len() {
         let name = words.next();
@@ -91,7 +92,7 @@ fn push_pairs(objects: &mut Vec<u8>, words: &mut Words<'_>) -> Result<(), AllocE
     Ok(())
 }
 
-// Adds what a take found: that the ring is empty or its front is busy, or a record.
+// Appends what a take found: that the ring is empty or its front is busy, or a record.
 fn push_found(
     alloc: Global,
     objects: &mut Vec<u8>,
@@ -116,7 +117,7 @@ fn push_found(
     Ok(())
 }
 
-// Adds whether a record was discarded, and the bytes of one that was not.
+// Appends whether a record was discarded, and the bytes of one that was not.
 fn push_bytes(alloc: Global, objects: &mut Vec<u8>, hex: &str) -> Result<(), AllocError> {
     if hex == "discarded" {
         return objects.extend_from_slice(b",\"discarded\":true");
@@ -129,7 +130,7 @@ fn push_bytes(alloc: Global, objects: &mut Vec<u8>, hex: &str) -> Result<(), All
     push_payload(alloc, objects, bytes.as_slice())
 }
 
-// Adds the parts of a drawing: a position or a number each, and the records between them as a list.
+// Appends the parts of a drawing: the positions and numbers, and the records between them as a list.
 fn push_drawing(objects: &mut Vec<u8>, line: &str) -> Result<(), AllocError> {
     let mut records: u32 = 0;
     for part in line.split(" | ").skip(1) {

@@ -11,8 +11,8 @@ use std::rt::Files;
 use std::sync::Wait;
 use std::thread::Threads;
 
-/// Runs a stream, prints its counters on `err`, and returns the status: 0, or 1 if it was refused, with a line on `err` that begins with
-/// `refused `, or if the counters could not be printed.
+/// Runs a stream, prints its counters on `err`, and returns the status: 0 for success; 1 if the stream was refused,
+/// with a line on `err` that begins with `refused `, or if the counters could not be printed.
 pub(crate) fn carry_out_stream<
     T,
     F: Read + Write + Send + Drop,

@@ -1,9 +1,9 @@
-//! What the command line may say of a stream.
+//! The options of the command `stream`.
 
 use clap::{Arg, ArgAction, Command};
 use std::alloc::{AllocError, Global};
 
-/// The command `stream` with its options.
+/// Returns the command `stream` with its options.
 pub(crate) fn stream<'a>(alloc: Global) -> Result<Command<'a>, AllocError> {
     Command::new(alloc, "stream")
         .about(
@@ -72,17 +72,17 @@ pub(crate) fn stream<'a>(alloc: Global) -> Result<Command<'a>, AllocError> {
         )
 }
 
-// An option with one value.
+// Returns an option with one value.
 fn one<'a>(alloc: Global, name: &'a str) -> Arg<'a> {
     Arg::new(alloc, name).long(name).action(ArgAction::Set)
 }
 
-// An option that may be given several times.
+// Returns an option that may be given several times.
 fn many<'a>(alloc: Global, name: &'a str) -> Arg<'a> {
     Arg::new(alloc, name).long(name).action(ArgAction::Append)
 }
 
-// An option without a value.
+// Returns an option without a value.
 fn flag<'a>(alloc: Global, name: &'a str) -> Arg<'a> {
     Arg::new(alloc, name).long(name).action(ArgAction::SetTrue)
 }

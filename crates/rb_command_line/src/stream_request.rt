@@ -1,4 +1,4 @@
-//! What the words of the command line ask of a stream.
+//! What the words of the command line request of a stream.
 
 use crate::bounds::SIZES;
 use crate::request::{Values, byte_count};
@@ -9,7 +9,7 @@ use rb_stream::Late;
 use std::alloc::AllocError;
 
 impl<'a> Values<'_, 'a> {
-    /// What is asked of a stream.
+    /// Returns what is requested of a stream.
     pub(crate) fn stream(&self) -> Result<StreamOptions<'a>, Error> {
         let rings = self.rings()?;
         let programs = self.texts("program")?;
@@ -29,7 +29,7 @@ impl<'a> Values<'_, 'a> {
         })
     }
 
-    // The values of an option that may be given several times.
+    // Returns the values of an option that may be given several times.
     fn texts(&self, name: &str) -> Result<Vec<&'a str>, AllocError> {
         let mut texts = Vec::new(self.alloc);
         if let Some(given) = self.options.get_strs(name) {
@@ -41,7 +41,8 @@ impl<'a> Values<'_, 'a> {
         Ok(texts)
     }
 
-    // The rings, each with its output. An output of no ring is refused, and so is a second one of the same ring or of standard output.
+    // Returns the rings, each with its output. Refuses an output for an unknown ring, a second output for one ring, and
+    // a second output to standard output.
     fn rings(&self) -> Result<Vec<NamedRing<'a>>, Error> {
         let mut rings = Vec::new(self.alloc);
         for text in self.texts("ring")?.as_slice() {
@@ -112,7 +113,7 @@ impl<'a> Values<'_, 'a> {
     }
 }
 
-// Whether a ring has this name.
+// Returns whether a ring has this name.
 fn is_named(rings: &[NamedRing<'_>], name: &str) -> bool {
     for ring in rings {
         if ring.name == name {
@@ -122,7 +123,7 @@ fn is_named(rings: &[NamedRing<'_>], name: &str) -> bool {
     false
 }
 
-// Sets the output of the ring of this name, and returns whether there is such a ring, without an output before.
+// Sets the output of the ring with this name, and returns whether there is such a ring that had no output before.
 fn set_output<'a>(rings: &mut [NamedRing<'a>], name: &str, path: &'a str) -> bool {
     for at in 0..rings.len() {
         if rings[at].name == name {

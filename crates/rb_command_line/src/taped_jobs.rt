@@ -1,50 +1,53 @@
-//! How many jobs of a run have ended whose records have all been written to the tape. Tests show it; no contract speaks of it.
+//! Counts the jobs of a run that have ended and whose records have all been written to the tape. Tests show it; no
+//! contract mentions it.
 
 use std::alloc::{AllocError, Global};
 use std::sync::atomic::{AtomicBool, AtomicU64, Ordering};
 
-/// How many jobs of a worker pass before they are counted.
+/// The number of jobs of a worker after which they are counted.
 pub(crate) const JOBS: u64 = 256;
 
-/// How many workers a run can have.
+/// The maximal number of workers of a run.
 const WORKERS: usize = 256;
 
 #[derive(Drop)]
 // The jobs that a worker has ended.
 struct EndedJobs {
-    // How many they are, counted 256 at a time and at the last one. The worker's thread writes it.
+    // Their number, counted after every 256 jobs and after the last one. The worker's thread writes it.
     count: AtomicU64,
-    // How many they were at the last mark. The consumer's thread writes it.
+    // Their number at the last mark. The consumer's thread writes it.
     marked: AtomicU64,
 }
 
 #[derive(Drop)]
 /// Counts the jobs of a run whose records have all been written to its tape.
 ///
-/// The consumer's thread makes a *mark*: it notes how many jobs each worker has ended. All records of these jobs stand in the ring then, or were
-/// taken before, so they are on the tape as soon as one of these holds:
+/// The consumer's thread makes a *mark*: it notes how many jobs each worker has ended. All records of these jobs are
+/// then in the ring, or were taken before, so they are on the tape as soon as one of these holds:
 ///
-/// - The tape is written out up to a ring's size after the position of the mark. A ring has no more bytes in use than its size.
-/// - Each worker has ended a job since the mark, and a batch that was begun after that took all it could. A record that stops such a batch is
-///   one of a job that was begun after the mark, and records are taken in their order.
+/// - The tape is written out up to a ring's size after the position of the mark. A ring never has more bytes in use
+///   than its size.
+/// - Each worker has ended a job since the mark, and a batch that began after that took everything that it could. A
+///   record that stops such a batch belongs to a job that began after the mark, and records are taken in order.
 ///
-/// Then the jobs of the mark are those that may be reported, and the next mark is made.
+/// Then the jobs of the mark may be reported, and the next mark is made.
 pub(crate) struct TapedJobs {
-    // How many jobs each worker runs.
+    // The number of jobs that each worker runs.
     each: u64,
     ended: Vec<EndedJobs>,
-    // How many jobs had ended at the mark.
+    // The number of jobs that had ended at the mark.
     marked: AtomicU64,
     // A position: the jobs of the mark are on the tape once it is written out that far.
     goal: AtomicU64,
     // Whether each worker was seen to have ended a job since the mark.
     is_passed: AtomicBool,
-    // How many jobs may be reported.
+    // The number of jobs that may be reported.
     written: AtomicU64,
 }
 
 impl TapedJobs {
-    /// No jobs yet, of so many workers that run so many each.
+    /// Returns a counter without jobs, for `workers` workers that run `each` jobs each. Fails if memory can't be
+    /// allocated.
     pub(crate) fn new(alloc: Global, workers: u64, each: u64) -> Result<TapedJobs, AllocError> {
         let count = usize::try_from(workers).unwrap_or(WORKERS).min(WORKERS);
         let mut ended = Vec::with_capacity(alloc, count)?;
@@ -65,7 +68,7 @@ impl TapedJobs {
     }
 
     #[inline]
-    /// Counts the jobs that the worker has ended. Is called after each.
+    /// Counts the jobs that the worker has ended. Called after each job.
     pub(crate) fn count(&self, worker: u32, jobs: u64) {
         if jobs % JOBS != 0 && jobs != self.each {
             return;
@@ -75,13 +78,14 @@ impl TapedJobs {
         }
     }
 
-    /// How many jobs have ended whose records are all on the tape.
+    /// Returns how many jobs have ended whose records are all on the tape.
     pub(crate) fn written(&self) -> u64 {
         self.written.load(Ordering::SeqCst)
     }
 
-    /// Learns that the tape of a ring of `size` bytes is written out up to this position, which is the consumer position, and whether the
-    /// consumer had just taken all it could. Is called on the consumer's thread alone.
+    /// Notes that the tape of a ring of `size` bytes is written out up to this position, which is the consumer
+    /// position, and whether the consumer had just taken everything that it could. Called only on the consumer's
+    /// thread.
     pub(crate) fn written_out(&self, position: u64, size: u64, caught_up: bool) {
         if position >= self.goal.load(Ordering::SeqCst)
             || (caught_up && self.is_passed.load(Ordering::SeqCst))
@@ -109,7 +113,7 @@ impl TapedJobs {
         self.is_passed.store(false, Ordering::SeqCst);
     }
 
-    // Whether each worker has ended a job since the mark, or all of its jobs.
+    // Returns whether each worker has ended a job since the mark, or all of its jobs.
     fn has_each_passed(&self) -> bool {
         for ended in &self.ended {
             let count = ended.count.load(Ordering::SeqCst);

@@ -1,4 +1,4 @@
--- Contexts that were dealt: each went to one worker or was dropped.
+-- Contexts that were dealt: each of them to one worker, or it was dropped.
 use Rattle.std.proofs.Common.{◌≡◌, ◌≢◌, ℕ, ◌+◌, ◌-◌, ◌<◌, ◌^◌, Bool, cond, eqb, List, [], ◌∷◌, Option, None, Some, length, filter, true, false, refl, sym, ap, length-append, arith}
 use Rattle.std.proofs.lemmas.Bool.{eq-eqb, ne_eqb}
 use Rattle.std.proofs.lemmas.List.Elements.{All-head, All-tail}
@@ -8,11 +8,11 @@ use Rattle.rb_stream.proofs.OfAll.{length_of_all}
 use Rattle.rb_stream.specs.Streamed.{of_all}
 use Rattle.rb_workers.proofs.Sums.{sum_to, sum_to_but_one, sum_to_none}
 
--- how many contexts this worker got
+-- the number of contexts that this worker got
 got : ℕ → List DealtPiece → ℕ
 got k pieces = length (dealt_to k pieces)
 
--- how many contexts all workers got
+-- the number of contexts that all workers got
 got_by_all : ℕ → List DealtPiece → ℕ
 got_by_all count pieces = length (of_all count (λ k. dealt_to k pieces))
 

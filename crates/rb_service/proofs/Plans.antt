@@ -1,4 +1,4 @@
--- Plans that are wrong, and the first of them.
+-- Wrong plans, and the first of them.
 use Rattle.std.proofs.Common.{◌≡◌, ℕ, ◌+◌, ◌<◌, List, [], ◌∷◌, get_or, length, Result, Ok, Err, sym, ap, subst, ◌∙◌, inl, inr, arith}
 use Rattle.std.proofs.lemmas.Bool.{cases_lt, cases_order}
 use Rattle.std.proofs.lemmas.List.{get_or_default}
@@ -28,7 +28,7 @@ none_wrong [] right m first = absurd (omega (arith, first.below))
 none_wrong (p ∷ plans) right m first = first.wrong p (right m p first.below)
 
 module _ {S : Type 0} (plans : List (RingPlan S)) where
-  -- two first ones are one
+  -- there is at most one first wrong plan
   only_first : (n m : ℕ) (p : RingPlan S) → IsFirstWrong plans n → IsFirstWrong plans m → n ≡ m
   only_first n m p first other = elim (cases_order n m) [
     | inl e ↦ e
@@ -44,7 +44,7 @@ module _ {S : Type 0} (plans : List (RingPlan S)) where
     right_before = right;
   }
 
-  -- one right size more
+  -- one more size is right
   pub right_more : (n : ℕ) (p : RingPlan S) → n < length plans → p ≡ get_or plans n p → IsRingSize p.size → AllWithin (λ q. IsRingSize q.size) plans 0 n → AllWithin (λ q. IsRingSize q.size) plans 0 (n + 1)
   right_more n p below is right so_far k d low within = elim (cases_lt k n) [
     | inl less ↦ so_far k d low less
@@ -53,14 +53,14 @@ module _ {S : Type 0} (plans : List (RingPlan S)) where
         subst (λ m. IsRingSize (get_or plans m d).size) (sym e) (subst (λ (q : RingPlan S). IsRingSize q.size) (is ∙ get_or_default plans n p d below) right)
   ]
 
-  -- a refusal of this size is one of the first
+  -- a refusal of this size is that of the first wrong plan
   pub size_refused : (n : ℕ) (p : RingPlan S) → IsFirstWrong plans n → (m : ℕ) → IsErrOf {T = Unit {0}} (Err (Size n)) (Size m) ↔ IsFirstWrong plans m
   size_refused n p first m = (λ e. subst (IsFirstWrong plans) (same_size n m e) first, λ other. ap (λ k. Err (Size k)) (only_first n m p first other))
 
-  -- then the workers are not refused
+  -- then the number of workers is not refused
   pub workers_unseen : (n : ℕ) (W : Type 0) → IsFirstWrong plans n → IsErrOf {T = Unit {0}} (Err (Size n)) Workers ↔ (All (λ q. IsRingSize q.size) plans × ¬ W)
   workers_unseen n W first = (λ e. absurd (size_is_other n e), λ h. absurd (none_wrong plans h.0 n first))
 
-  -- if all sizes are right, no other answer refuses one
+  -- if all sizes are right, no other result refuses one
   pub no_size : {T E : Type 0} (answer : Result T E) (size : ℕ → E) → ((m : ℕ) → answer ≡ Err (size m) → ⊥) → All (λ q. IsRingSize q.size) plans → (m : ℕ) → IsErrOf answer (size m) ↔ IsFirstWrong plans m
   no_size answer size other right m = (λ e. absurd (other m e), λ first. absurd (none_wrong plans right m first))

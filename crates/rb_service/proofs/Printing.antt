@@ -1,4 +1,4 @@
--- Texts that grow by lines of counters.
+-- Texts to which lines of counters are appended.
 use Rattle.std.proofs.Common.{◌≡◌, ℕ, zero, suc, ◌+◌, ◌-◌, ◌<◌, ◌^◌, ◌++◌, List, [], ◌∷◌, Result, Ok, Err, add-one, drop, drop-cons, get_or, length, refl, sym, ap, subst, ◌∙◌, append_assoc, arith}
 use Rattle.std.proofs.Math.Dec.{eqb-suc-zero}
 use Rattle.std.specs.Prelude.{OnOk, codes, if◌then◌else◌, is_ok}
@@ -12,7 +12,7 @@ use Rattle.rb_stream_worker.specs.declared.result_counts.ResultCounts.{ResultCou
 use Rattle.rb_workers.specs.declared.opened.Ended.{Ended}
 use Rattle.rb_service.specs.Counters.{AppendsCounters, contexts_line, contexts_read, counters, other_line, program_lines, programs_lines_from, records_line, requests_part, result_line, result_lines_from, ring_line, rings_lines}
 
--- the text of the line of the contexts, as it is put together
+-- the text of the line of the contexts, as it is composed
 contexts_pieces : (read run dropped skipped cut : List ℕ)
     → codes "contexts read " ++ (read ++ (codes " run " ++ (run ++ (codes " dropped " ++ (dropped ++ (codes " skipped " ++ (skipped ++ (codes " cut " ++ (cut ++ 10 ∷ [])))))))))
     ≡ line (codes "contexts read " ++ read ++ codes " run " ++ run ++ codes " dropped " ++ dropped ++ codes " skipped " ++ skipped ++ codes " cut " ++ cut)
@@ -24,7 +24,7 @@ pub contexts_written : {A B : Type 0} (answer : Result A B) (old new : List ℕ)
 contexts_written (Ok a) old new read run dropped c wrote = wrote ∙ ap (λ l. old ++ l) (contexts_pieces (decimal read) (decimal run) (decimal dropped) (decimal c.skipped) (decimal c.cut))
 contexts_written (Err e) old new read run dropped c wrote = tt
 
--- the text of a result's line, as it is put together
+-- the text of a result's line, as it is composed
 result_pieces : (program value runs : List ℕ) → codes "program " ++ (program ++ (codes " result " ++ (value ++ (codes " runs " ++ (runs ++ 10 ∷ [])))))
     ≡ line (codes "program " ++ program ++ codes " result " ++ value ++ codes " runs " ++ runs)
 result_pieces program value runs = simp append_assoc refl
@@ -42,7 +42,7 @@ result_written (Ok a) old new program value (suc n) some wrote =
     wrote ∙ ap (λ l. old ++ l) (result_pieces (decimal program) (decimal value) (decimal (suc n)) ∙ sym (some_result program value n))
 result_written (Err e) old new program value runs some wrote = tt
 
--- the text of the line of a program's other results, as it is put together
+-- the text of the line of a program's other results, as it is composed
 other_pieces : (program runs : List ℕ) → codes "program " ++ (program ++ (codes " other runs " ++ (runs ++ 10 ∷ [])))
     ≡ line (codes "program " ++ program ++ codes " other runs " ++ runs)
 other_pieces program runs = simp append_assoc refl
@@ -60,7 +60,7 @@ other_written (Ok a) old new program (suc n) some wrote =
     wrote ∙ ap (λ l. old ++ l) (other_pieces (decimal program) (decimal (suc n)) ∙ sym (some_other program n))
 other_written (Err e) old new program runs some wrote = tt
 
--- the text of a ring's requests, as it is put together
+-- the text of a ring's requests, as it is composed
 requests_pieces : (made refused : List ℕ) → codes " made " ++ (made ++ (codes " refused " ++ (refused ++ codes " "))) ≡ codes " made " ++ made ++ codes " refused " ++ refused ++ codes " "
 requests_pieces made refused = simp append_assoc refl
 
@@ -70,7 +70,7 @@ pub requests_written : {A B : Type 0} (answer : Result A B) (old new : List ℕ)
 requests_written (Ok a) old new c wrote = wrote ∙ ap (λ l. old ++ l) (requests_pieces (decimal c.made) (decimal c.refused))
 requests_written (Err e) old new c wrote = tt
 
--- the text of what became of a ring's records, as it is put together
+-- the text of what happened to a ring's records, as it is composed
 records_pieces : (consumed discarded waiting busy : List ℕ)
     → codes "consumed " ++ (consumed ++ (codes " discarded " ++ (discarded ++ (codes " waiting " ++ (waiting ++ (codes " busy " ++ (busy ++ 10 ∷ [])))))))
     ≡ line (codes "consumed " ++ consumed ++ codes " discarded " ++ discarded ++ codes " waiting " ++ waiting ++ codes " busy " ++ busy)
@@ -91,30 +91,30 @@ ring_written (Ok a) old one two three new name c first second third fourth =
     fourth ∙ (ap (λ l. l ++ records_line c) (third ∙ ap (λ l. l ++ requests_part c) (second ∙ ap (λ l. l ++ name) first)) ∙ ring_pieces old (codes "ring ") name (requests_part c) (records_line c))
 ring_written (Err e) old one two three new name c first second third fourth = tt
 
--- the rest of a list begins with the element at this place
+-- the rest of a list begins with the element at this index
 next_is : {A : Type 0} (xs : List A) (i : ℕ) (x : A) → i < length xs → x ≡ get_or xs i x → drop i xs ≡ x ∷ drop (i + 1) xs
 next_is xs i x below is = rw add-one (drop-cons xs i x below ∙ ap (λ e. e ∷ drop (suc i) xs) (sym is))
 
--- a line more, of the lines that are left
+-- one more of the remaining lines
 line_more : (lines this rest new whole left : List ℕ) → left ≡ this ++ rest → lines ++ left ≡ whole → new ≡ lines ++ this → new ++ rest ≡ whole
 line_more lines this rest new whole left left_is so_far wrote =
     ap (λ l. l ++ rest) wrote ∙ (append_assoc lines this rest ∙ (ap (λ l. lines ++ l) (sym left_is) ∙ so_far))
 
--- the lines of one program more
+-- the lines of one more program
 pub programs_more : (results : List ResultCounts) (i : ℕ) (counts : ResultCounts) (lines new whole : List ℕ) → i < length results → counts ≡ get_or results i counts
     → lines ++ programs_lines_from i (drop i results) ≡ whole → new ≡ lines ++ program_lines i counts → new ++ programs_lines_from (i + 1) (drop (i + 1) results) ≡ whole
 programs_more results i counts lines new whole below is so_far wrote =
     line_more lines (program_lines i counts) (programs_lines_from (i + 1) (drop (i + 1) results)) new whole (programs_lines_from i (drop i results))
     (ap (programs_lines_from i) (next_is results i counts below is)) so_far wrote
 
--- the line of one result more
+-- the line of one more result
 pub results_more : (program : ℕ) (below : List ℕ) (i runs : ℕ) (lines new whole : List ℕ) → i < length below → runs ≡ get_or below i runs
     → lines ++ result_lines_from program i (drop i below) ≡ whole → new ≡ lines ++ result_line program i runs → new ++ result_lines_from program (i + 1) (drop (i + 1) below) ≡ whole
 results_more program below i runs lines new whole within is so_far wrote =
     line_more lines (result_line program i runs) (result_lines_from program (i + 1) (drop (i + 1) below)) new whole (result_lines_from program i (drop i below))
     (ap (result_lines_from program i) (next_is below i runs within is)) so_far wrote
 
--- the line of one ring more
+-- the line of one more ring
 pub rings_more : {S : Type 0} (names : List (List ℕ)) (rings : List (Ended S)) (i : ℕ) (name : List ℕ) (ended : Ended S) (lines new whole : List ℕ)
     → i < length names → i < length rings → name ≡ get_or names i name → ended ≡ get_or rings i ended
     → lines ++ rings_lines (drop i names) (drop i rings) ≡ whole → new ≡ lines ++ ring_line name (told_counts ended.closing.at_end) → new ++ rings_lines (drop (i + 1) names) (drop (i + 1) rings) ≡ whole

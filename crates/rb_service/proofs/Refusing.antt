@@ -25,7 +25,7 @@ wrong_first rings n e below wrong right = record {
   right_before = right;
 }
 
--- one right size more
+-- one more size is right
 pub one_right : (rings : List NamedRing) (n : ℕ) (e : NamedRing) → n < length rings → IsRingSize (get_or rings n e).size → AllWithin (λ r. IsRingSize r.size) rings 0 n → AllWithin (λ r. IsRingSize r.size) rings 0 (n + 1)
 one_right rings n e below right so_far k d low within = elim (cases_lt k n) [
   | inl less ↦ so_far k d low less
@@ -34,7 +34,7 @@ one_right rings n e below right so_far k d low within = elim (cases_lt k n) [
       subst (λ m. IsRingSize (get_or rings m d).size) (sym same) (subst (λ (r : NamedRing). IsRingSize r.size) (get_or_default rings n e d below) right)
 ]
 
--- if the options are allowed, a refusal that is not due to them alone is right
+-- if the options are allowed, a refusal that does not follow from them alone is right
 pub later_right : {A : Type 0} (options : StreamOptions) (answer : Result A StreamRefusal) → IsAllowed options → IfErr answer IsLater → IfErr answer (IsRightRefusal options)
 later_right options (Ok a) allowed later = tt
 later_right options (Err Context) allowed later = absurd later
@@ -42,7 +42,7 @@ later_right options (Err (Size name)) allowed later = absurd later
 later_right options (Err Workers) allowed later = absurd later
 later_right options (Err _) allowed later = allowed
 
--- a plan more whose output begins at position 0
+-- one more plan whose output begins at position 0
 pub begins_more : {A B : Type 0} (old mid new : List (RingPlan (RingOutput A B))) (plan : RingPlan (RingOutput A B)) → mid ≡ old → new ≡ mid ++ plan ∷ []
     → All (λ (p : RingPlan (RingOutput A B)). output_position p.sink ≡ 0) old → output_position plan.sink ≡ 0 → All (λ (p : RingPlan (RingOutput A B)). output_position p.sink ≡ 0) new
 begins_more {A} {B} old mid new plan same grown so_far begins =

@@ -1,4 +1,4 @@
--- What a service comes to, put together of what its calls say.
+-- The result of a service, composed of the contracts of its calls.
 use Rattle.std.proofs.Common.{◌≡◌, ◌≢◌, ℕ, List, Result, Err, refl, sym, ap, subst, ◌∙◌}
 use Rattle.std.specs.Prelude.{◌↔◌, All, IsErrOf}
 use Rattle.rb_history.specs.RingModel.{IsRingSize}
@@ -26,7 +26,7 @@ size_no_workers n e = cc
 
 module _ {S T : Type 0} (slice plans : List (RingPlan S)) (W : Type 0) (same : slice ≡ plans) (answer : Result (Unit {0}) PlanFault)
     (sizes : (m : ℕ) → IsErrOf answer (PlanSize m) ↔ IsFirstWrong slice m) (workers : IsErrOf answer PlanWorkers ↔ (All (λ p. IsRingSize p.size) slice × ¬ W)) where
-  -- the number of a wrong plan is handed on
+  -- the number of a wrong plan is passed on
   pub size_handed_on : (n : ℕ) → answer ≡ Err (PlanSize n) → (m : ℕ) → IsErrOf {T = T} (Err (Size n)) (Size m) ↔ IsFirstWrong plans m
   size_handed_on n is m = (
     (λ e. subst (λ (l : List (RingPlan S)). IsFirstWrong l m) same ((sizes m).0 (is ∙ ap (λ k. Err (PlanSize k)) (same_size n m e)))),
@@ -48,7 +48,7 @@ module _ {S T : Type 0} (slice plans : List (RingPlan S)) (W : Type 0) (same : s
   pub workers_handed_on : answer ≡ Err PlanWorkers → IsErrOf {T = T} (Err Workers) Workers ↔ (All (λ p. IsRingSize p.size) plans × ¬ W)
   workers_handed_on is = ((λ e. (let h = workers.0 is in (subst (λ (l : List (RingPlan S)). All (λ (p : RingPlan S). IsRingSize p.size) l) same h.0, h.1))), λ h. refl)
 
--- a stream's fault is reported as no other
+-- no fault of a stream is reported as a wrong size
 fault_no_size : (fault : StreamFault) (n : ℕ) → reported_fault fault ≡ Size n → ⊥
 fault_no_size StreamUnknownRing n e = cc
 fault_no_size StreamContextLength n e = cc

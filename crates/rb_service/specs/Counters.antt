@@ -1,4 +1,4 @@
--- What is printed of a stream's report, as bytes (own).
+-- What is printed for a stream's report, as bytes (own).
 use Rattle.std.specs.Prelude.{ℕ, ◌≡◌, ◌+◌, ◌-◌, ◌<◌, ◌^◌, ◌==◌, if◌then◌else◌, List, [], ◌∷◌, ◌++◌, codes}
 use Rattle.std.specs.Fmt.{decimal}
 use Rattle.rb_history.specs.declared.answers.Counts.{Counts}
@@ -10,7 +10,7 @@ use Rattle.rb_workers.specs.declared.opened.Ended.{Ended}
 use Rattle.rb_stream.specs.declared.report.StreamReport.{StreamReport}
 use Rattle.rb_stream_worker.specs.declared.result_counts.ResultCounts.{ResultCounts}
 
--- the contexts that were read: those that the source gave, and those that it skipped for their length
+-- the number of contexts that were read: those that the source gave, and those that it skipped for their length
 abbrev pub contexts_read : ℕ → ContextCounts → ℕ
 contexts_read given counts = saturated (given + counts.skipped)
 
@@ -20,25 +20,25 @@ contexts_line read run dropped counts =
     line (codes "contexts read " ++ decimal read ++ codes " run " ++ decimal run ++ codes " dropped " ++ decimal dropped
     ++ codes " skipped " ++ decimal counts.skipped ++ codes " cut " ++ decimal counts.cut)
 
--- how many runs of this program ended with this result, if any did
+-- how many runs of this program returned this result, if any did
 abbrev pub result_line : (program value runs : ℕ) → List ℕ
 result_line program value runs =
     if runs == 0 then [] else line (codes "program " ++ decimal program ++ codes " result " ++ decimal value ++ codes " runs " ++ decimal runs)
 
--- the lines of results, numbered on from this one
+-- the lines of results, numbered from this one on
 abbrev pub result_lines_from : (program value : ℕ) → List ℕ → List ℕ
 result_lines_from program value [] = []
 result_lines_from program value (runs ∷ more) = result_line program value runs ++ result_lines_from program (value + 1) more
 
--- how many runs of this program ended with a result that is not counted for itself, if any did
+-- how many runs of this program returned a result that is not counted individually, if any did
 abbrev pub other_line : (program runs : ℕ) → List ℕ
 other_line program runs = if runs == 0 then [] else line (codes "program " ++ decimal program ++ codes " other runs " ++ decimal runs)
 
--- the results of a program: those that are counted each for itself, and all others together
+-- the results of a program: those that are counted individually, and all others together
 abbrev pub program_lines : ℕ → ResultCounts → List ℕ
 program_lines program counts = result_lines_from program 0 counts.below.items ++ other_line program counts.other
 
--- the results of programs, numbered on from this one
+-- the results of programs, numbered from this one on
 abbrev pub programs_lines_from : ℕ → List ResultCounts → List ℕ
 programs_lines_from program [] = []
 programs_lines_from program (counts ∷ more) = program_lines program counts ++ programs_lines_from (program + 1) more
@@ -47,7 +47,7 @@ programs_lines_from program (counts ∷ more) = program_lines program counts ++ 
 abbrev pub requests_part : Counts → List ℕ
 requests_part counts = codes " made " ++ decimal counts.made ++ codes " refused " ++ decimal counts.refused ++ codes " "
 
--- what became of a ring's records
+-- what happened to a ring's records
 abbrev pub records_line : Counts → List ℕ
 records_line counts =
     line (codes "consumed " ++ decimal counts.consumed ++ codes " discarded " ++ decimal counts.discarded ++ codes " waiting " ++ decimal counts.waiting ++ codes " busy " ++ decimal counts.busy)
@@ -61,13 +61,15 @@ abbrev pub rings_lines : {S : Type 0} → List (List ℕ) → List (Ended S) →
 rings_lines (name ∷ names) (ended ∷ more) = ring_line name (told_counts ended.closing.at_end) ++ rings_lines names more
 rings_lines _ _ = []
 
--- the counters: of the contexts, each program's results, each ring, and the failures that no ring explains
+-- the counters: those of the contexts, of each program's results and of each ring, and the failures that no ring
+-- explains
 abbrev pub counters : {S : Type 0} → StreamReport S → ContextCounts → List (List ℕ) → List ℕ
 counters report contexts names =
     contexts_line (contexts_read report.contexts contexts) report.ran report.dropped contexts ++ programs_lines_from 0 report.results.items
     ++ rings_lines names report.rings.items ++ line (codes "unlogged " ++ decimal report.unlogged)
 
--- counters were appended, and the contexts that were read are those that were run, dropped or skipped (as long as no count is the greatest number)
+-- Counters were appended, and the contexts that were read are those that were run, dropped or skipped, as long as no
+-- count is the greatest number.
 pub record AppendsCounters (old new : List ℕ) : Type 0 where
   pub read : ℕ
   pub run : ℕ

@@ -9,7 +9,7 @@ use Rattle.rb_workers.specs.ChapterSizes.{margin_of, room_of}
 use Rattle.rb_workers.specs.declared.opened.Opened.{Opened}
 use Rattle.rb_service.specs.declared.rings.RingPlan.{RingPlan}
 
--- the ring of this number is the first one whose size no ring may have
+-- the ring with this number is the first whose size no ring may have
 pub record IsFirstWrong {S : Type 0} (plans : List (RingPlan S)) (number : ℕ) : Type 0 where
   pub below : number < length plans
   pub wrong : HoldsAt (λ p. ¬ IsRingSize p.size) plans number

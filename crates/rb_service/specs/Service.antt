@@ -1,4 +1,4 @@
--- What a service does (own).
+-- The effect of a service (own).
 use Rattle.std.specs.Prelude.{ℕ, List}
 use Rattle.std.specs.List.{AllZip}
 use Rattle.rb_verifier.specs.Subject.{Subject}
@@ -14,7 +14,8 @@ use Rattle.rb_service.specs.declared.service.ServiceRequest.{ServiceRequest}
 use Rattle.rb_stream.specs.declared.report.StreamFault.{StreamFault}
 use Rattle.rb_stream.specs.declared.report.StreamFault.TheVariants.{UnknownRing as StreamUnknownRing, ContextLength as StreamContextLength, NoWorker as StreamNoWorker, Memory as StreamMemory}
 
--- rings were opened as planned, and the programs were run over them on each context that the source gave: this is the report
+-- rings were opened as planned, and the programs were run over them on each context that the source gave: this is the
+-- report
 pub record Serves {S I : Type 0} (position : S → ℕ) (takes : S → SinkItem → S → Type 0) (gives : I → List (List ℕ) → I → Type 0) (plans : List (RingPlan S)) (programs : List Subject) (request : ServiceRequest) (source later : I) (report : StreamReport S) : Type 0 where
   pub opened : List (Opened S)
   pub fresh : AllZip (IsFreshFor request.workers) plans opened

@@ -54,7 +54,7 @@ where
     Ok(programs)
 }
 
-// Opens the output of a ring. `out` is standard output, until a ring has it.
+// Opens the output of a ring. `out` is standard output, until a ring uses it.
 fn open_output<'a, T, F: Write + Drop, W: Write + Drop>(
     rt: &T,
     alloc: Global,
@@ -86,7 +86,7 @@ where
     }
 }
 
-// Plans the rings: each with its size and the output of its records.
+// Returns the plan of each ring: its size, and the output of its records.
 fn plan_rings<'a, T, F: Write + Drop, W: Write + Drop>(
     rt: &T,
     alloc: Global,
@@ -114,7 +114,8 @@ where
     Ok(plans)
 }
 
-// Opens the file of the input. A FIFO is opened to read and write, since one that is only read ends when its last writer closes it.
+// Opens the file of the input. A FIFO is opened for reading and writing, because one that is open only for reading ends
+// when its last writer closes it.
 fn open_input<T, F: Read + Drop>(rt: &T, path: &str) -> io::Result<F>
 where
     T: Files<File = F>,
@@ -162,14 +163,17 @@ fn stream_from<
     }
 }
 
-/// Runs every program on each context of the input, and writes what each ring's consumer takes to its output. Returns once the input has
-/// ended. The counters are appended to `printed`, also if the input or an output failed. A FIFO is opened to read and write, so that writers may
-/// come and go; it ends by an end mark.
+/// Runs every program on each context of the input, and writes what each ring's consumer takes to its output. Returns
+/// once the input has ended.
+///
+/// Appends the counters to `printed`, even if the input or an output failed. A FIFO is opened for reading and writing,
+/// so that writers may come and go; the input then ends at an end mark.
 ///
 /// # Errors
 ///
-/// `Context`, `Size` and `Workers` are refusals of the options, in this order, and come before any file is opened. Then the programs are read in their
-/// order, the outputs are opened in the order of the rings, and the input's file is opened; nothing is read of the input before.
+/// `Context`, `Size` and `Workers` are refusals of the options, in this order, and are returned before any file is
+/// opened. After that, the programs are read in order, the outputs are opened in the order of the rings, and the
+/// input's file is opened. Nothing is read from the input before.
 pub fn stream<'a, T, F: Read + Write + Send + Drop, R: Read + Send, W: Write + Send>(
     rt: &T,
     alloc: Global,
@@ -189,7 +193,7 @@ where
     stream_allowed(rt, alloc, options, gate, input, out, printed)
 }
 
-// Runs the stream of these options, which are allowed by themselves.
+// Runs the stream with these options, which are allowed.
 fn stream_allowed<'a, T, F: Read + Write + Send + Drop, R: Read + Send, W: Write + Send>(
     rt: &T,
     alloc: Global,

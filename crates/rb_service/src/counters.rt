@@ -1,4 +1,4 @@
-//! What is printed of a service's report.
+//! The counters that are printed for a service's report.
 
 ghost use Rattle.std.specs.Prelude.{◌≡◌, ◌++◌, IfOk, OnOk, length, map, string_bytes};
 ghost use Rattle.rb_chapter_ring.specs.OpenedRing.{told_counts};
@@ -11,8 +11,10 @@ use rb_stream_worker::ResultCounts;
 use rb_workers::Ended;
 use std::alloc::{AllocError, Global};
 
-/// Returns the counters of a stream at its end, a line each: its contexts, the results of each program, each ring by its name, and the failures
-/// that no ring's history explains. The contexts that were read are those of the report and those that the source skipped.
+/// Returns the counters of a stream at its end, one line each: its contexts, the results of each program, each ring by
+/// its name, and the failures that no ring's history explains.
+///
+/// The contexts that were read are those of the report and those that the source skipped.
 pub fn counters_text<S>(
     alloc: Global,
     report: &StreamReport<S>,
@@ -58,7 +60,7 @@ fn push_programs(text: &mut String, results: &[ResultCounts]) -> Result<(), Allo
     Ok(())
 }
 
-// Appends a line for each result with which runs of a program ended.
+// Appends a line for each result that runs of a program returned.
 fn push_results(text: &mut String, program: usize, counts: &ResultCounts) -> Result<(), AllocError>
     ensures lines { OnOk result (string_bytes text.new ≡ string_bytes text.old ++ program_lines program counts.now) }
 {
@@ -66,7 +68,7 @@ fn push_results(text: &mut String, program: usize, counts: &ResultCounts) -> Res
     push_other(text, program, counts.other)
 }
 
-// Appends a line for each result that is counted for itself and with which runs of a program ended.
+// Appends a line for each result that is counted individually and that runs of a program returned.
 fn push_counted(text: &mut String, program: usize, below: &[u64]) -> Result<(), AllocError>
     ensures lines { OnOk result (string_bytes text.new ≡ string_bytes text.old ++ result_lines_from program 0 below.now) }
 {
@@ -76,7 +78,7 @@ fn push_counted(text: &mut String, program: usize, below: &[u64]) -> Result<(), 
     Ok(())
 }
 
-// Appends the line of a result with which runs ended, if any did.
+// Appends the line of a result, if any runs returned it.
 fn push_result(text: &mut String, program: usize, value: usize, runs: u64) -> Result<(), AllocError>
     ensures line { OnOk result (string_bytes text.new ≡ string_bytes text.old ++ result_line program value runs) }
 {
@@ -131,7 +133,7 @@ fn push_requests(text: &mut String, counts: Counts) -> Result<(), AllocError>
     write!(text, " made {} refused {} ", counts.made, counts.refused)
 }
 
-// Appends what became of a ring's records.
+// Appends what happened to a ring's records.
 fn push_records(text: &mut String, counts: Counts) -> Result<(), AllocError>
     ensures records { OnOk result (string_bytes text.new ≡ string_bytes text.old ++ records_line counts) }
 {

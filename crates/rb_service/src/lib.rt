@@ -1,7 +1,8 @@
-//! The command `stream`: verified programs run over contexts as they come, and what each ring's consumer takes goes to an output.
+//! The command `stream`: runs verified programs over contexts as they arrive, and writes what each ring's consumer
+//! takes to an output.
 //!
-//! `serve` opens a ring for each output, runs the stream, and promises what `rb_stream::run_stream` promises of rings that were just opened
-//! with these outputs. `counters_text` prints what the report says.
+//! `serve` opens a ring for each output and runs the stream. It promises what `rb_stream::run_stream` does, for newly
+//! opened rings with these outputs. `counters_text` returns the counters of the report as text.
 #![tactic(auto)]
 
 mod command;

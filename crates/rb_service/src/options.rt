@@ -3,14 +3,15 @@
 use rb_source::{Form, Framing};
 use rb_stream::Late;
 
-/// A ring, by its name.
+/// A ring with its name.
 #[derive(Clone, Copy, Debug, PartialEq, Eq)]
 pub struct NamedRing<'a> {
     /// Its name, which the counters print.
     pub name: &'a str,
     /// Its size in bytes.
     pub size: u64,
-    /// The file to which its tape is written, `-` for standard output. If there is none, its records are consumed and counted.
+    /// The file to which its tape is written, or `-` for standard output. If there is none, the ring's records are
+    /// consumed and counted.
     pub out: Option<&'a str>,
 }
 
@@ -19,17 +20,17 @@ pub struct NamedRing<'a> {
 pub struct StreamOptions<'a> {
     /// The rings, in the order in which programs number them.
     pub rings: Vec<NamedRing<'a>>,
-    /// The files of the programs, in hex, in the order in which each context is run by them.
+    /// The files of the programs, in hex, in the order in which they run on each context.
     pub programs: Vec<&'a str>,
-    /// How many workers there are.
+    /// The number of workers.
     pub workers: u32,
     /// How the input is divided into contexts.
     pub framing: Framing,
     /// The form of contexts: their length, and what happens to those of another length.
     pub form: Form,
-    /// The file that is read in place of the input.
+    /// The file that is read instead of the input.
     pub from: Option<&'a str>,
-    /// What happens to contexts when all workers are behind.
+    /// What happens to contexts when the queues of all workers are full.
     pub late: Late,
     /// Results below this bound are counted individually.
     pub results: u32,

@@ -1,4 +1,4 @@
-//! Where the records of a ring go.
+//! The outputs for the records of rings.
 
 ghost use Rattle.std.specs.Prelude.{◌≡◌, false, true};
 
@@ -8,7 +8,7 @@ use rb_run_commands::TapeSink;
 use rb_tape::Item;
 use rb_workers::{NullSink, OpenGate, Sink};
 
-/// Where the records of a ring go: to a tape on one of two kinds of writers, or nowhere.
+/// The output for the records of a ring: a tape on one of two kinds of writers, or none.
 #[derive(Drop)]
 pub enum RingOutput<'w, A, B> {
     /// A tape on a stream, such as standard output.

@@ -1,4 +1,4 @@
-//! Refusals of `stream`, and which of them its options have by themselves.
+//! The refusals of `stream`, and which of them follow from its options alone.
 
 ghost use Rattle.std.specs.Prelude.{◌≡◌, ◌↔◌, All, IfErr, IfNone, IfSome, IsTrue, OnOk};
 ghost use Rattle.rb_history.specs.RingModel.{IsRingSize};
@@ -18,7 +18,7 @@ pub enum StreamRefusal<'a> {
     /// Contexts would be longer than 65,536 bytes, or `fixed` ones would have no bytes.
     #[error("context length")]
     Context,
-    /// The ring of this name is the first whose size is not a power of two from 4,096 to 67,108,864.
+    /// The ring with this name is the first whose size is not a power of two from 4,096 to 67,108,864.
     #[error("size of ring {0}")]
     Size(&'a str),
     /// The number of workers is not 1 to 256.
@@ -30,19 +30,19 @@ pub enum StreamRefusal<'a> {
     /// The program in this file was refused.
     #[error("program {0}: {1}")]
     Program(&'a str, ProgramFault),
-    /// The input could not be read. All contexts before were run.
+    /// The input could not be read. All contexts before that were run or dropped.
     #[error("input cannot be read")]
     Input,
-    /// The input ends inside the context of this number, counted from 0. All contexts before it were run.
+    /// The input ends inside the context with this number, counted from 0. All contexts before it were run or dropped.
     #[error("input ends inside context {0}")]
     EndsInside(u64),
     /// The tape of this ring was not written completely.
     #[error("tape of ring {0}")]
     Tape(&'a str),
-    /// The stream did not begin, or stopped.
+    /// The stream did not start, or it stopped.
     #[error("{0}")]
     Service(ServiceFault),
-    /// There was no memory to begin, or to print the counters.
+    /// Memory to start the stream or to print the counters could not be allocated.
     #[error("memory")]
     Memory,
 }
@@ -58,7 +58,7 @@ impl<'a> From<AllocError> for StreamRefusal<'a> {
     }
 }
 
-// Whether contexts have a length that is allowed, and some bytes if nothing but their length divides them.
+// Returns whether contexts have an allowed length, and at least one byte if only their length separates them.
 fn has_contexts(options: &StreamOptions<'_>) -> bool
     ensures value { IsTrue result ↔ HasContexts options.now }
 {
@@ -86,7 +86,8 @@ fn find_wrong<'a>(rings: &[NamedRing<'a>]) -> Option<NamedRing<'a>>
     None
 }
 
-/// Returns the first refusal of the options by themselves: of the contexts, of the rings' sizes in their order, and of the workers.
+/// Returns the first refusal that follows from the options alone: of the contexts, of the rings' sizes in order, or of
+/// the number of workers.
 pub(crate) fn check_options<'a>(options: &StreamOptions<'a>) -> Result<(), StreamRefusal<'a>>
     ensures refused { IfErr result (IsRightRefusal options.now) }
     ensures allowed { OnOk result (IsAllowed options.now) }

@@ -65,7 +65,8 @@ fn print_counters<S>(
     printed.extend_from_slice(text.as_bytes())
 }
 
-/// Appends the counters to `printed`, and flushes the outputs.
+/// Appends the counters to `printed`, and flushes the outputs. Returns `Tape` for the first output that was not written
+/// completely, and otherwise the fault that ended the stream, if there is one.
 pub(crate) fn report_on<'a, A: Write + Drop, B: Write + Drop>(
     alloc: Global,
     options: &StreamOptions<'a>,

@@ -1,4 +1,4 @@
-//! The rings of a service, opened.
+//! Opens the rings of a service.
 
 ghost use Rattle.std.specs.Prelude.{◌≡◌, ◌↔◌, ℕ, All, IfOk, IsErrOf, OnOk};
 ghost use Rattle.std.specs.List.{AllZip};
@@ -13,25 +13,26 @@ use rb_workers::{Opened, Sink, chapter_margin, chapter_room};
 use std::alloc::{AllocError, Global};
 use std::sync::Wait;
 
-/// A ring that is to be opened: its size in bytes, and what takes its records.
+/// A ring that is opened later: its size in bytes, and the sink that takes its records.
 #[derive(Drop)]
 pub struct RingPlan<S> {
     /// The ring's size in bytes.
     pub size: u64,
-    /// What takes its records.
+    /// The sink that takes its records.
     pub sink: S,
 }
 
-/// Why rings may not be opened as planned.
+/// Why rings can't be opened as planned.
 #[derive(Clone, Copy, Debug, PartialEq, Eq)]
 pub(crate) enum PlanFault {
-    /// The ring of this number is the first whose size is wrong.
+    /// The ring with this number is the first whose size is wrong.
     Size(usize),
     /// The number of workers is not 1 to 256, and all sizes are right.
     Workers,
 }
 
-/// Returns the first fault of the plans: the number of the first ring whose size is wrong, or else that the number of workers is.
+/// Returns the first fault of the plans: the number of the first ring whose size is wrong, and otherwise that the
+/// number of workers is.
 pub(crate) fn check_plans<S>(plans: &[RingPlan<S>], workers: u32) -> Result<(), PlanFault>
     ensures size { (number : ℕ) → IsErrOf result (WrongSize number) ↔ IsFirstWrong plans.now number }
     ensures workers { IsErrOf result WrongWorkers ↔ (All (λ p. IsRingSize p.size) plans.now × ¬ IsWorkerCount workers) }
@@ -48,7 +49,7 @@ pub(crate) fn check_plans<S>(plans: &[RingPlan<S>], workers: u32) -> Result<(), 
     Ok(())
 }
 
-// Opens the ring of this number at position 0.
+// Opens the ring with this number at position 0.
 fn open_ring<T: Wait, S: Sink + Drop>(
     rt: &T,
     alloc: Global,
@@ -74,7 +75,7 @@ fn open_ring<T: Wait, S: Sink + Drop>(
     }
 }
 
-/// Opens a ring for each plan, at position 0 and with this number of workers. Fails only if there is no memory.
+/// Opens a ring for each plan, at position 0 and with this number of workers. Fails only if memory can't be allocated.
 pub(crate) fn open_rings<T: Wait, S: Sink + Drop>(
     rt: &T,
     alloc: Global,

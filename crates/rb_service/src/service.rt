@@ -22,9 +22,9 @@ use thiserror::Error;
 /// How a service runs its programs.
 #[derive(Clone, Copy, Debug, PartialEq, Eq)]
 pub struct ServiceRequest {
-    /// How many workers there are: 1 to 256.
+    /// The number of workers: 1 to 256.
     pub workers: u32,
-    /// What happens to contexts when all workers are behind.
+    /// What happens to contexts when the queues of all workers are full.
     pub late: Late,
     /// Results below this bound are counted individually.
     pub results: u32,
@@ -33,7 +33,7 @@ pub struct ServiceRequest {
 /// Why a service has no report.
 #[derive(Clone, Copy, Debug, PartialEq, Eq, Error)]
 pub enum ServiceFault {
-    /// The ring of this number has a size that is not a power of two from 4,096 to 67,108,864. Nothing was read.
+    /// The ring with this number has a size that is not a power of two from 4,096 to 67,108,864. Nothing was read.
     #[error("size of ring {0}")]
     Size(usize),
     /// The number of workers is not 1 to 256. Nothing was read.
@@ -42,24 +42,26 @@ pub enum ServiceFault {
     /// A program was verified for more rings than there are. Nothing was read.
     #[error("a program knows more rings than there are")]
     UnknownRing,
-    /// A program was verified for contexts of another length than the source gives. Nothing was read.
+    /// A program was verified for contexts of another length than the source's. Nothing was read.
     #[error("a program takes contexts of another length")]
     ContextLength,
     /// There is no ring. Nothing was read.
     #[error("there is no ring")]
     NoRing,
-    /// There was no memory to begin, or to go on.
+    /// Memory to start or to continue could not be allocated.
     #[error("memory")]
     Memory,
 }
 
-/// Opens a ring for each plan, at position 0, runs every program on each context of the source, and closes the rings once the source has ended
-/// or failed. Each ring's records go to its sink. Every context that the source gave was run by every program or dropped.
+/// Opens a ring for each plan, at position 0, runs every program on each context of the source, and closes the rings
+/// once the source has ended or failed. Each ring's records go to its sink. Every context that the source gave was run
+/// by every program or dropped.
 ///
 /// # Errors
 ///
-/// `Size` comes for the first ring whose size is wrong, then `Workers`, before any ring is opened. `UnknownRing`, `ContextLength` and `NoRing` come
-/// in this order, before anything is read. `Memory` comes if there is no memory to begin or to go on; what was written to the sinks is lost.
+/// Returns `Size` for the first ring whose size is wrong, or else `Workers`, before any ring is opened. Returns
+/// `UnknownRing`, `ContextLength` and `NoRing`, in this order, before anything is read. Returns `Memory` if memory to
+/// start or to continue can't be allocated; what was written to the sinks is lost.
 pub fn serve<T: Threads + Wait + Sync, I: Source + Send, S: Sink + Send + Drop>(
     rt: &T,
     alloc: Global,
@@ -87,7 +89,7 @@ pub fn serve<T: Threads + Wait + Sync, I: Source + Send, S: Sink + Send + Drop>(
     }
 }
 
-// Serves over rings whose sizes and whose number of workers are right.
+// Serves over rings whose sizes and number of workers are right.
 fn serve_planned<T: Threads + Wait + Sync, I: Source + Send, S: Sink + Send + Drop>(
     rt: &T,
     alloc: Global,

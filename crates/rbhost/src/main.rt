@@ -1,16 +1,27 @@
-//! A host for eBPF programs that write into BPF ring buffers, as a program with eight commands.
+//! A host for eBPF programs that write to BPF ring buffers, as a program with eight commands.
 //!
-//! `feed` puts payloads through a ring and writes the bytes that a reader of the kernel's ring buffer maps (ringbuf.rst). `tape` reads
-//! them back. `check` decodes and verifies a program (RFC 9669), runs it once over fresh rings, and prints the records that it left. `cost` prints what an
-//! accepted program can cost at most, and `explain` that behind what the verifier knows before each instruction, or why a program is refused. `run` has
-//! workers run a verified program on threads over one ring, and prints what each counted; what the ring's consumer took it writes to a file as a tape,
-//! where one is asked for. `sim` runs a script of workers and rings in turns, without threads. `stream` runs verified programs on contexts as they arrive,
-//! and writes the records of each ring as a tape.
+//! - `feed` puts payloads through a ring, and writes the bytes that a reader of the kernel's ring buffer maps
+//!   (ringbuf.rst), as a *tape*: a file of records.
+//! - `tape` reads a tape and prints its records.
+//! - `check` decodes and verifies a program (RFC 9669), runs it once over fresh rings, and prints the records that it
+//!   left.
+//! - `explain` prints what the verifier knows before each instruction of an accepted program, followed by the most that
+//!   the program can cost, or why a program is refused.
+//! - `cost` prints the most that an accepted program can cost.
+//! - `run` runs a verified program as jobs of workers, on threads and over one ring, and prints the counts of each
+//!   worker. On request, it writes the records that the ring's consumer took to a file as a tape.
+//! - `sim` runs a script of workers and rings in turns, without threads.
+//! - `stream` runs verified programs on contexts as they arrive, and writes the records of each ring as a tape.
 //!
-//! What is promised is on the public calls of the crates below: `command` (rb_command_line) says which statuses there are, `feed` and `tape`
-//! (rb_tape_commands) what was read and written by their answers, `explain` and `cost` (rb_loader) what was explained and that a cost is exact,
-//! `check`, `run` and `run_taped` (rb_run_commands) that what is printed is what the rings handed out, `serve` (rb_service) that every program ran on
-//! each context and what each ring's output was given, and `sim` (rb_script) that its lines are those of a world's turns.
+//! The contracts are those of the public calls of the crates below:
+//!
+//! - `command` (rb_command_line): which exit statuses there are.
+//! - `feed` and `tape` (rb_tape_commands): what was read and written, by their results.
+//! - `explain` and `cost` (rb_loader): what was explained, and that a cost is exact.
+//! - `check`, `run` and `run_taped` (rb_run_commands): that what is printed is what the rings handed out.
+//! - `serve` (rb_service): that every program ran on each context that was not dropped, and what each ring's output
+//!   received.
+//! - `sim` (rb_script): that its lines are those of a world's turns.
 #![tactic(auto)]
 
 use rb_command_line::{Terminals, command};
@@ -39,14 +50,15 @@ fn main(rt: HostRuntime) -> ExitCode {
     ))
 }
 
-// The words of the command line that follow the program's name.
+// Returns the words of the command line that follow the program's name.
 fn words(rt: &HostRuntime) -> io::Result<Vec<String>> {
     let mut words = env::args(rt)?;
     let _ = words.next();
     Ok(words.collect(rt.alloc())?)
 }
 
-// Prints why the words can't be read: out of memory, or they are no text, which is wrong usage.
+// Prints why the words can't be read, and returns the status: 1 if memory can't be allocated, and 2 (wrong usage) if
+// they are not text.
 fn print_unreadable(rt: &HostRuntime, error: &io::Error) -> ExitCode {
     let (line, status) = match error.kind() {
         io::ErrorKind::OutOfMemory => ("refused memory", 1),

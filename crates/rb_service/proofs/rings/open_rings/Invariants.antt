@@ -7,7 +7,7 @@ use Rattle.rb_service.specs.Rings.{IsFreshFor}
 use Rattle.rb_service.specs.declared.rings.RingPlan.{RingPlan}
 use Rattle.rb_service.proofs.rings.open_rings.Given as goal
 
--- the rings of some first plans were opened
+-- the rings of the first plans were opened
 abbrev pub invariant-loop-plan : goal.invariant-loop-plan
 invariant-loop-plan g l =
     let rest = into_iter_items l.plan-iterator in
