@@ -5,6 +5,7 @@ ghost use Rattle.std.specs.Io.KnownBytes.{Keeps};
 ghost use Rattle.rb_history.specs.RingModel.{IsRingSize, IsStartPosition};
 ghost use Rattle.rb_tape_commands.specs.inner.PayloadSteps.{IsWholeInput};
 
+use crate::follow_words::carry_out_follow;
 use crate::progress::{Metered, Progress};
 use crate::reasons::{Seen, reason_of};
 use crate::refusal::{CommandRefusal, object_of};
@@ -40,14 +41,7 @@ use std::time::Clock;
 /// the default, which `--no-why` turns off.
 ///
 /// `feed`, `tape`, `explain`, `cost` and `sim` wait for nobody. `check` and `run` hold a ring's lock for each call, and `run` starts threads.
-pub fn command<
-    T,
-    F: Read + Write + Send + Drop,
-    S: AsStr,
-    R: Read + Send,
-    W: Write + Send,
-    E: Write,
->(
+pub fn command<T, S: AsStr, R: Read + Send, W: Write + Send, E: Write>(
     rt: &T,
     alloc: Global,
     words: &[S],
@@ -57,7 +51,7 @@ pub fn command<
     err: &mut E,
 ) -> u8
 where
-    T: Threads + Wait + Sync + Files<File = F> + Clock + Eprint,
+    T: Threads + Wait + Sync + Files<File = File> + Clock + Eprint,
     ensures status { result ≤ 2 }
     ensures usage { result ≡ 2 → Keeps (R.remaining input.old) (R.remaining input.new) × Keeps (W.contents out.old) (W.contents out.new) }
 {
@@ -66,6 +60,7 @@ where
         Ok(ParsedCommand::Stream(options)) => carry_out_stream(
             rt, alloc, &options, input, out, err,
         ),
+        Ok(ParsedCommand::Follow(asked)) => carry_out_follow(rt, alloc, &asked, out, err),
         Err(error) => print_usage(&error, out, err),
     }
 }

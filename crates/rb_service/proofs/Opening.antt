@@ -1,8 +1,7 @@
 -- Rings that were opened one after another.
-use Rattle.std.proofs.Common.{◌≡◌, ℕ, false, List, [], ◌∷◌, refl, sym, subst, arith}
+use Rattle.std.proofs.Common.{◌≡◌, ℕ, false, List, [], ◌∷◌, sym, subst, arith}
 use Rattle.std.specs.Prelude.{All}
 use Rattle.std.proofs.lemmas.List.Elements.{All-nil}
-use Rattle.rb_history.specs.RingModel.{IsStartPosition}
 use Rattle.rb_chapter_ring.specs.Chapters.{empty_chapter}
 use Rattle.rb_ledger.specs.ChapterSeats.{fresh_chapter_consumer}
 use Rattle.rb_ledger.specs.Seats.{fresh_book, fresh_seats}
@@ -13,20 +12,20 @@ use Rattle.rb_workers.proofs.Numbered.{seats_length}
 use Rattle.rb_service.specs.Rings.{IsFreshFor}
 use Rattle.rb_service.specs.declared.rings.RingPlan.{RingPlan}
 
-pub first_start : IsStartPosition 0
-first_start = (refl, omega arith)
-
--- a ring that was opened with the plan's size, and the room and margin of that size, is fresh for the plan
-pub fresh_for : {S : Type 0} (workers room margin tag : ℕ) (plan : RingPlan S) (o : Opened S) → room ≡ room_of plan.size → margin ≡ margin_of plan.size → o.ring.tag ≡ tag
-    → o.seats.items ≡ fresh_seats tag o.ring.ring room (fresh_book plan.size 0 workers) 0 workers
-    → o.consumer ≡ fresh_chapter_consumer tag o.ring.ring room (fresh_book plan.size 0 workers)
+-- a ring that was opened with the plan's size, at its sink's position, and with the room and margin of that size, is fresh for the plan
+pub fresh_for : {S : Type 0} (position : S → ℕ) (workers room margin tag start : ℕ) (plan : RingPlan S) (o : Opened S) → start ≡ position plan.sink → room ≡ room_of plan.size → margin ≡ margin_of plan.size → o.ring.tag ≡ tag
+    → o.seats.items ≡ fresh_seats tag o.ring.ring room (fresh_book plan.size start workers) 0 workers
+    → o.consumer ≡ fresh_chapter_consumer tag o.ring.ring room (fresh_book plan.size start workers)
     → o.keeper ≡ record { chapter = empty_chapter room workers; margin = margin; is_lent = false }
-    → o.sink ≡ plan.sink → IsFreshFor workers plan o
-fresh_for workers room margin tag plan o room_is margin_is tag_is seats consumer keeper sink =
-    let book = fresh_book plan.size 0 workers in
+    → o.sink ≡ plan.sink → IsFreshFor position workers plan o
+fresh_for position workers room margin tag start plan o start_is room_is margin_is tag_is seats consumer keeper sink =
+    let book = fresh_book plan.size start workers in
+    let book_is = λ (n : ℕ). fresh_book plan.size n workers in
     record {
-      seats_are = subst (λ m. o.seats.items ≡ fresh_seats o.ring.tag o.ring.ring m book 0 workers) room_is (subst (λ t. o.seats.items ≡ fresh_seats t o.ring.ring room book 0 workers) (sym tag_is) seats);
-      consumer_is = subst (λ m. o.consumer ≡ fresh_chapter_consumer o.ring.tag o.ring.ring m book) room_is (subst (λ t. o.consumer ≡ fresh_chapter_consumer t o.ring.ring room book) (sym tag_is) consumer);
+      seats_are = subst (λ n. o.seats.items ≡ fresh_seats o.ring.tag o.ring.ring (room_of plan.size) (book_is n) 0 workers) start_is
+          (subst (λ m. o.seats.items ≡ fresh_seats o.ring.tag o.ring.ring m book 0 workers) room_is (subst (λ t. o.seats.items ≡ fresh_seats t o.ring.ring room book 0 workers) (sym tag_is) seats));
+      consumer_is = subst (λ n. o.consumer ≡ fresh_chapter_consumer o.ring.tag o.ring.ring (room_of plan.size) (book_is n)) start_is
+          (subst (λ m. o.consumer ≡ fresh_chapter_consumer o.ring.tag o.ring.ring m book) room_is (subst (λ t. o.consumer ≡ fresh_chapter_consumer t o.ring.ring room book) (sym tag_is) consumer));
       keeper_is = subst (λ m. o.keeper ≡ record { chapter = empty_chapter (room_of plan.size) workers; margin = m; is_lent = false }) margin_is
           (subst (λ m. o.keeper ≡ record { chapter = empty_chapter m workers; margin = margin; is_lent = false }) room_is keeper);
       sink_is = sink;

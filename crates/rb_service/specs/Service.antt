@@ -17,7 +17,7 @@ use Rattle.rb_stream.specs.declared.report.StreamFault.TheVariants.{UnknownRing 
 -- rings were opened as planned, and the programs were run over them on each context that the source gave: this is the report
 pub record Serves {S I : Type 0} (position : S → ℕ) (takes : S → SinkItem → S → Type 0) (gives : I → List (List ℕ) → I → Type 0) (plans : List (RingPlan S)) (programs : List Subject) (request : ServiceRequest) (source later : I) (report : StreamReport S) : Type 0 where
   pub opened : List (Opened S)
-  pub fresh : AllZip (IsFreshFor request.workers) plans opened
+  pub fresh : AllZip (IsFreshFor position request.workers) plans opened
   pub streamed : IsStreamed position takes gives opened programs request.results source later report
 
 -- how the fault of a stream is reported

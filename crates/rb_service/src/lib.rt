@@ -6,20 +6,31 @@
 
 mod command;
 mod counters;
+mod folders;
+mod metrics;
+mod metrics_text;
 mod options;
+mod output_files;
 mod outputs;
 mod refusal;
 mod report;
 mod rings;
 mod service;
+mod watch;
+mod watched_output;
+mod watched_source;
 
 pub use command::stream;
 pub use counters::counters_text;
-pub use options::{NamedRing, StreamOptions};
-pub use outputs::RingOutput;
+pub use metrics::StreamMetrics;
+pub use options::{MetricsFile, NamedRing, SegmentFolder, StreamOptions};
+pub use outputs::{OutputEnd, RingOutput};
 pub use refusal::StreamRefusal;
 pub use rings::RingPlan;
 pub use service::{ServiceFault, ServiceRequest, serve};
+pub use watch::{OutputTotals, StreamWatch};
+pub use watched_output::WatchedOutput;
+pub use watched_source::WatchedSource;
 
 #[cfg(test)]
 mod tests;

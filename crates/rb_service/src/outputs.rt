@@ -1,59 +1,114 @@
 //! Where the records of a ring go.
 
-ghost use Rattle.std.specs.Prelude.{◌≡◌, false, true};
+ghost use Rattle.std.specs.Prelude.{◌≡◌, ◌≢◌, false};
+ghost use Rattle.rb_service.specs.Outputs.{has_fault};
 
+use crate::watch::OutputTotals;
 use rb_chapter_ring::Chapter;
 use rb_io::Outgoing;
 use rb_run_commands::TapeSink;
+use rb_segments::{SegmentStore, SegmentWriter};
 use rb_tape::Item;
 use rb_workers::{NullSink, OpenGate, Sink};
 
-/// Where the records of a ring go: to a tape on one of two kinds of writers, or nowhere.
+/// Where the records of a ring go: to a tape on one of two kinds of writers, to a tape in segments, or nowhere.
 #[derive(Drop)]
-pub enum RingOutput<'w, A, B> {
+pub enum RingOutput<'w, A, B, S: SegmentStore<F>, F: Outgoing + Drop> {
     /// A tape on a stream, such as standard output.
     Stream(TapeSink<'w, A, OpenGate>),
     /// A tape in a file.
     File(TapeSink<'w, B, OpenGate>),
+    /// A tape in segments.
+    Segments(SegmentWriter<S, F>),
     /// The records are counted and dropped.
     Nowhere(NullSink),
 }
 
-impl<'w, A: Outgoing + Drop, B: Outgoing + Drop> RingOutput<'w, A, B> {
-    ghost use Rattle.std.specs.Prelude.{◌≡◌, false, true};
+/// How an output ended.
+#[derive(Clone, Copy, Debug, PartialEq, Eq)]
+pub enum OutputEnd {
+    /// It was written completely.
+    Whole,
+    /// Its tape was written completely, in segments, and ends at this position.
+    Segments(u64),
+    /// It was not written completely.
+    Failed,
+}
+
+impl<'w, A: Outgoing + Drop, B: Outgoing + Drop, S: SegmentStore<F> + Drop, F: Outgoing + Drop> RingOutput<
+    'w,
+    A,
+    B,
+    S,
+    F,
+> {
+    ghost use Rattle.std.specs.Prelude.{◌≡◌, ◌≢◌, false};
     ghost use Rattle.rb_service.specs.Outputs.{has_failed};
 
     /// Flushes the output, and returns whether all of it was written.
-    pub fn finish(self) -> bool
-        ensures whole { result ≡ true → has_failed self.entry ≡ false }
+    pub fn finish(self) -> OutputEnd
+        ensures whole { result ≢ OutputEnd.Failed → has_failed self.entry ≡ false }
     {
         match self {
             RingOutput::Stream(tape) => finish_tape(tape),
             RingOutput::File(tape) => finish_tape(tape),
-            RingOutput::Nowhere(_) => true,
+            RingOutput::Segments(tape) => finish_segments(tape),
+            RingOutput::Nowhere(_) => OutputEnd::Whole,
         }
     }
 }
 
-// Flushes the tape, and returns whether all of it was written.
-fn finish_tape<W: Outgoing + Drop>(tape: TapeSink<'_, W, OpenGate>) -> bool
-    ensures whole { result ≡ true → tape.entry.failed ≡ false }
-{
-    let failed = tape.failed();
-    tape.into_writer().write_out().is_ok() && !failed
+impl<'w, A: Outgoing, B: Outgoing, S: SegmentStore<F>, F: Outgoing + Drop> RingOutput<'w, A, B, S, F> {
+    /// Returns where the tape begins and ends, and what was deleted and not written. The records are not counted.
+    pub fn totals(&self) -> OutputTotals {
+        let mut totals = OutputTotals::default();
+        totals.position = self.position();
+        if let RingOutput::Segments(tape) = self {
+            totals.oldest = tape.oldest();
+            totals.deleted = tape.oldest().saturating_sub(tape.first());
+            totals.unwritten = tape.unwritten();
+        }
+        totals
+    }
 }
 
-impl<'w, A: Outgoing, B: Outgoing> Sink for RingOutput<'w, A, B> {
+// Flushes the tape, and returns whether all of it was written.
+fn finish_tape<W: Outgoing + Drop>(tape: TapeSink<'_, W, OpenGate>) -> OutputEnd
+    ensures whole { result ≢ OutputEnd.Failed → tape.entry.failed ≡ false }
+{
+    let failed = tape.failed();
+    if tape.into_writer().write_out().is_err() || failed {
+        return OutputEnd::Failed;
+    }
+    OutputEnd::Whole
+}
+
+// Ends the tape in order, and returns where it ends if all of it was written.
+fn finish_segments<S: SegmentStore<F> + Drop, F: Outgoing + Drop>(
+    tape: SegmentWriter<S, F>,
+) -> OutputEnd
+    ensures whole { result ≢ OutputEnd.Failed → has_fault tape.entry.fault ≡ false }
+{
+    let position = tape.position();
+    match tape.finish() {
+        (_, Some(_)) => OutputEnd::Failed,
+        (_, None) => OutputEnd::Segments(position),
+    }
+}
+
+impl<'w, A: Outgoing, B: Outgoing, S: SegmentStore<F>, F: Outgoing + Drop> Sink
+    for RingOutput<'w, A, B, S, F> {
     ghost use Rattle.rb_service.specs.Outputs.{output_position, output_takes};
 
     ghost position_of = { output_position };
 
-    ghost takes = { output_takes A.contents A.writes_out B.contents B.writes_out };
+    ghost takes = { output_takes A.contents A.writes_out B.contents B.writes_out S.segments F.contents };
 
     fn position(&self) -> u64 {
         match self {
             RingOutput::Stream(tape) => tape.position(),
             RingOutput::File(tape) => tape.position(),
+            RingOutput::Segments(tape) => tape.position(),
             RingOutput::Nowhere(sink) => sink.position(),
         }
     }
@@ -62,6 +117,7 @@ impl<'w, A: Outgoing, B: Outgoing> Sink for RingOutput<'w, A, B> {
         match self {
             RingOutput::Stream(tape) => tape.record(item),
             RingOutput::File(tape) => tape.record(item),
+            RingOutput::Segments(tape) => tape.put(item),
             RingOutput::Nowhere(sink) => sink.record(item),
         }
     }
@@ -70,6 +126,7 @@ impl<'w, A: Outgoing, B: Outgoing> Sink for RingOutput<'w, A, B> {
         match self {
             RingOutput::Stream(tape) => tape.chapter(chapter),
             RingOutput::File(tape) => tape.chapter(chapter),
+            RingOutput::Segments(tape) => tape.write_out(),
             RingOutput::Nowhere(sink) => sink.chapter(chapter),
         }
     }
@@ -78,6 +135,7 @@ impl<'w, A: Outgoing, B: Outgoing> Sink for RingOutput<'w, A, B> {
         match self {
             RingOutput::Stream(tape) => tape.caught_up(),
             RingOutput::File(tape) => tape.caught_up(),
+            RingOutput::Segments(tape) => tape.write_out(),
             RingOutput::Nowhere(sink) => sink.caught_up(),
         }
     }

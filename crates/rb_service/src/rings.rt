@@ -1,8 +1,8 @@
 //! The rings of a service, opened.
 
-ghost use Rattle.std.specs.Prelude.{◌≡◌, ◌↔◌, ℕ, All, IfOk, IsErrOf, OnOk};
+ghost use Rattle.std.specs.Prelude.{◌↔◌, ℕ, All, IfOk, IsErrOf, OnOk};
 ghost use Rattle.std.specs.List.{AllZip};
-ghost use Rattle.rb_history.specs.RingModel.{IsRingSize, IsWorkerCount};
+ghost use Rattle.rb_history.specs.RingModel.{IsRingSize, IsStartPosition, IsWorkerCount};
 ghost use Rattle.rb_workers.specs.Opened.{IsOpened};
 ghost use Rattle.rb_service.specs.Rings.{IsFirstWrong, IsFreshFor};
 ghost use Rattle.rb_service.specs.declared.rings.PlanFault.TheVariants.{Size as WrongSize, Workers as WrongWorkers};
@@ -48,7 +48,7 @@ pub(crate) fn check_plans<S>(plans: &[RingPlan<S>], workers: u32) -> Result<(), 
     Ok(())
 }
 
-// Opens the ring of this number at position 0.
+// Opens the ring of this number at the position of its sink.
 fn open_ring<T: Wait, S: Sink + Drop>(
     rt: &T,
     alloc: Global,
@@ -56,15 +56,16 @@ fn open_ring<T: Wait, S: Sink + Drop>(
     plan: RingPlan<S>,
     workers: u32,
 ) -> Result<Opened<S>, AllocError>
-    requires begins { S.position_of plan.sink ≡ 0 }
+    requires begins { IsStartPosition (S.position_of plan.sink) }
     requires size { IsRingSize plan.size }
     requires workers { IsWorkerCount workers }
     ensures opened { IfOk result (IsOpened S.position_of workers) }
-    ensures fresh { IfOk result (IsFreshFor workers plan) }
+    ensures fresh { IfOk result (IsFreshFor S.position_of workers plan) }
 {
     let RingPlan { size, sink } = plan;
+    let start = sink.position();
     let (room, margin) = (chapter_room(size), chapter_margin(size));
-    match Opened::open(rt, alloc, number, size, 0, workers, room, margin, sink) {
+    match Opened::open(rt, alloc, number, size, start, workers, room, margin, sink) {
         Ok(one) => Ok(one),
         Err(OpenFault::Memory) => Err(AllocError),
         Err(OpenFault::Size) => unreachable!(),
@@ -74,18 +75,18 @@ fn open_ring<T: Wait, S: Sink + Drop>(
     }
 }
 
-/// Opens a ring for each plan, at position 0 and with this number of workers. Fails only if there is no memory.
+/// Opens a ring for each plan, at the position of its sink and with this number of workers. Fails only if there is no memory.
 pub(crate) fn open_rings<T: Wait, S: Sink + Drop>(
     rt: &T,
     alloc: Global,
     plans: Vec<RingPlan<S>>,
     workers: u32,
 ) -> Result<Vec<Opened<S>>, AllocError>
-    requires begins { All (λ p. S.position_of p.sink ≡ 0) plans.items }
+    requires begins { All (λ p. IsStartPosition (S.position_of p.sink)) plans.items }
     requires sizes { All (λ p. IsRingSize p.size) plans.items }
     requires workers { IsWorkerCount workers }
     ensures opened { IfOk result (λ opened. All (IsOpened S.position_of workers) opened.items) }
-    ensures fresh { IfOk result (λ opened. AllZip (IsFreshFor workers) plans.items opened.items) }
+    ensures fresh { IfOk result (λ opened. AllZip (IsFreshFor S.position_of workers) plans.items opened.items) }
 {
     let mut opened = Vec::new(alloc);
     for plan in plans {

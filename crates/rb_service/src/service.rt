@@ -1,7 +1,7 @@
 //! A stream over rings that are opened for it.
 
 ghost use Rattle.std.specs.Prelude.{◌≡◌, ◌≢◌, ◌↔◌, ◌+◌, ◌-◌, ◌<◌, ◌^◌, ℕ, All, IfErr, IfOk, IsErrOf, false, true, vec_len};
-ghost use Rattle.rb_history.specs.RingModel.{IsRingSize, IsWorkerCount};
+ghost use Rattle.rb_history.specs.RingModel.{IsRingSize, IsStartPosition, IsWorkerCount};
 ghost use Rattle.rb_workers.specs.Rest.{LeavesNothing};
 ghost use Rattle.rb_stream.specs.Refusals.{has_other_length, has_unknown_ring};
 ghost use Rattle.rb_stream.specs.Streamed.{EndsSource};
@@ -53,7 +53,7 @@ pub enum ServiceFault {
     Memory,
 }
 
-/// Opens a ring for each plan, at position 0, runs every program on each context of the source, and closes the rings once the source has ended
+/// Opens a ring for each plan, at the position of its sink, runs every program on each context of the source, and closes the rings once the source has ended
 /// or failed. Each ring's records go to its sink. Every context that the source gave was run by every program or dropped.
 ///
 /// # Errors
@@ -68,7 +68,7 @@ pub fn serve<T: Threads + Wait + Sync, I: Source + Send, S: Sink + Send + Drop>(
     plans: Vec<RingPlan<S>>,
     request: ServiceRequest,
 ) -> Result<StreamReport<S>, ServiceFault>
-    requires begins { All (λ p. S.position_of p.sink ≡ 0) plans.items }
+    requires begins { All (λ p. IsStartPosition (S.position_of p.sink)) plans.items }
     ensures size { (number : ℕ) → IsErrOf result (Size number) ↔ IsFirstWrong plans.items number }
     ensures workers { IsErrOf result Workers ↔ (All (λ p. IsRingSize p.size) plans.items × ¬ IsWorkerCount request.workers) }
     ensures unknown_ring { IsErrOf result UnknownRing → has_unknown_ring (vec_len plans) programs.now ≡ true }
@@ -96,7 +96,7 @@ fn serve_planned<T: Threads + Wait + Sync, I: Source + Send, S: Sink + Send + Dr
     plans: Vec<RingPlan<S>>,
     request: ServiceRequest,
 ) -> Result<StreamReport<S>, ServiceFault>
-    requires begins { All (λ p. S.position_of p.sink ≡ 0) plans.items }
+    requires begins { All (λ p. IsStartPosition (S.position_of p.sink)) plans.items }
     requires sizes { All (λ p. IsRingSize p.size) plans.items }
     requires workers { IsWorkerCount request.workers }
     ensures no_size { (number : ℕ) → ¬ IsErrOf result (Size number) }

@@ -32,13 +32,13 @@ returns-in-Err-clause-no_workers g c = is_no_workers c.in-Err.stop.fault _ c.fau
 
 pub returns-in-Err-clause-unknown_ring : goal.returns-in-Err-clause-unknown_ring
 returns-in-Err-clause-unknown_ring g c =
-    let z = zip_length (IsFreshFor c.args.request.workers) c.args.plans.items c.in-Ok.opened.items c.in-Ok.ensures.fresh in
+    let z = zip_length (IsFreshFor g.S.Sink.position_of c.args.request.workers) c.args.plans.items c.in-Ok.opened.items c.in-Ok.ensures.fresh in
     let same : vec_len c.in-Ok.opened ≡ vec_len c.args.plans = omega (arith, z, c.in-Ok.opened.ok.0, c.args.plans.ok.0) in
     λ e. subst (λ n. has_unknown_ring n c.args.programs.now ≡ true) same (c.in-Err.ensures.unknown_ring.0 (is_unknown c.in-Err.stop.fault _ c.fault_of.ensures.value e))
 
 pub returns-in-Err-clause-context_length : goal.returns-in-Err-clause-context_length
 returns-in-Err-clause-context_length g c =
-    let z = zip_length (IsFreshFor c.args.request.workers) c.args.plans.items c.in-Ok.opened.items c.in-Ok.ensures.fresh in
+    let z = zip_length (IsFreshFor g.S.Sink.position_of c.args.request.workers) c.args.plans.items c.in-Ok.opened.items c.in-Ok.ensures.fresh in
     let same : vec_len c.in-Ok.opened ≡ vec_len c.args.plans = omega (arith, z, c.in-Ok.opened.ok.0, c.args.plans.ok.0) in
     λ e. (
       subst (λ n. has_unknown_ring n c.args.programs.now ≡ false) same (c.in-Err.ensures.context_length.0 (is_length c.in-Err.stop.fault _ c.fault_of.ensures.value e)).0,
