@@ -1,15 +1,27 @@
 -- What an output in segments is given.
-use Rattle.std.proofs.Common.{◌≡◌, ℕ, List, [], ◌∷◌, ◌++◌, Option, refl, sym, ap, subst, append_assoc, append-nil}
+use Rattle.std.proofs.Common.{◌≡◌, ℕ, Bool, List, [], ◌∷◌, ◌++◌, Option, refl, sym, subst, append_assoc, append-nil}
 use Rattle.rb_history.specs.TapeBytes.{Item}
 use Rattle.rb_segments.specs.Segments.{Segment}
 use Rattle.rb_segments.specs.SegmentTape.{HasWritten, SegmentTape, WritesRecord}
 use Rattle.rb_tape.specs.Items.{item_of, item_taken}
 use Rattle.rb_tape.specs.declared.item.Item.{Item as Lent}
-use Rattle.rb_workers.specs.Sink.{SinkItem}
-use Rattle.rb_workers.specs.Sink.SinkItem.{Record}
+use Rattle.rb_workers.specs.Sink.{SinkItem, TakesAll}
+use Rattle.rb_workers.specs.Sink.SinkItem.{Record, Chapter, CaughtUp}
+use Rattle.rb_history.specs.declared.answers.Taken.TheVariants.{Event, Skipped, BusyFront, Empty}
 use Rattle.rb_run_commands.specs.TapedRun.{sink_tape_items}
 use Rattle.rb_run_commands.proofs.TapeGiven.{lent_is}
-use Rattle.rb_service.specs.Outputs.{ContinuesWith}
+use Rattle.rb_service.specs.Outputs.{ContinuesWith, output_takes}
+use Rattle.rb_service.specs.declared.outputs.RingOutput.{RingOutput}
+use Rattle.rb_service.specs.declared.outputs.RingOutput.TheVariants.{Stream, File, Segments, Nowhere}
+
+-- the records of the first item, and then those of the others
+first_of : (item : SinkItem) (items : List SinkItem) → sink_tape_items (item ∷ items) ≡ sink_tape_items (item ∷ []) ++ sink_tape_items items
+first_of (Record (Event p w k bytes)) items = refl
+first_of (Record (Skipped p n)) items = refl
+first_of (Record BusyFront) items = refl
+first_of (Record Empty) items = refl
+first_of (Chapter c) items = refl
+first_of CaughtUp items = refl
 
 module _ {S F : Type 0} (segments : S → Option (List Segment)) (contents : F → Option (List ℕ)) where
   -- a record was written, or counted
@@ -33,3 +45,30 @@ module _ {S F : Type 0} (segments : S → Option (List Segment)) (contents : F �
         subst (λ l. HasWritten segments contents start l (before ++ (xs ++ ys)) c) (append_assoc deleted first.0 second.0)
             (subst (λ l. HasWritten segments contents start ((deleted ++ first.0) ++ second.0) l c) (append_assoc before xs ys) second.1),
       ))
+
+-- what an output in segments received, item by item
+module _ {A B S F : Type 0} (contents : A → Option (List ℕ)) (writes_out : A → Bool → A → Type 0) (file_contents : B → Option (List ℕ)) (file_writes_out : B → Bool → B → Type 0)
+    (segments : S → Option (List Segment)) (segment_contents : F → Option (List ℕ)) where
+  abbrev takes : RingOutput A B S F → SinkItem → RingOutput A B S F → Type 0
+  takes = output_takes contents writes_out file_contents file_writes_out segments segment_contents
+
+  abbrev Holds : SegmentTape S F → List Item → RingOutput A B S F → Type 0
+  Holds old items new = (tape : SegmentTape S F) × (new ≡ Segments tape) × ContinuesWith segments segment_contents old items tape
+
+  -- one item: the output is in segments as before
+  one_item : (old : SegmentTape S F) (item : SinkItem) (mid : RingOutput A B S F) → takes (Segments old) item mid → Holds old (sink_tape_items (item ∷ [])) mid
+  one_item old item (Stream t) took = absurd took
+  one_item old item (File t) took = absurd took
+  one_item old item (Segments t) took = (t, refl, took)
+  one_item old item (Nowhere s) took = absurd took
+
+  pub all_items : (items : List SinkItem) (old : SegmentTape S F) (new : RingOutput A B S F) → TakesAll takes (Segments old) items new → Holds old (sink_tape_items items) new
+  all_items [] old new same = (old, same, continues_same segments segment_contents old old (λ start deleted before h. h))
+  all_items (item ∷ items) old new given =
+      let one = one_item old item given.0 given.1 in
+      let more = all_items items one.0 new (subst (λ (o : RingOutput A B S F). TakesAll takes o items new) one.1 given.2) in (
+        more.0,
+        more.1,
+        subst (λ l. ContinuesWith segments segment_contents old l more.0) (sym (first_of item items))
+            (continues_both segments segment_contents old one.0 more.0 (sink_tape_items (item ∷ [])) (sink_tape_items items) one.2 more.2),
+      )

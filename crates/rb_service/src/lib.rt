@@ -7,6 +7,7 @@
 mod command;
 mod counters;
 mod folders;
+mod laws;
 mod metrics;
 mod metrics_text;
 mod options;
@@ -22,6 +23,7 @@ mod watched_source;
 
 pub use command::stream;
 pub use counters::counters_text;
+pub use laws::segments_hold_what_was_taken;
 pub use metrics::StreamMetrics;
 pub use options::{MetricsFile, NamedRing, SegmentFolder, StreamOptions};
 pub use outputs::{OutputEnd, RingOutput};
