@@ -32,9 +32,10 @@ pub(crate) fn follow_options<'a>(alloc: Global) -> Result<Command<'a>, AllocErro
         )
         .after_help("Example: rbhost follow /var/lib/heskavo packets --json")
         .arg(
-            Arg::new(alloc, "dir").value_name("DIR").required(true).help(
-                "The directory to which `stream --out DIR` writes",
-            ),
+            Arg::new(alloc, "dir")
+                .value_name("DIR")
+                .required(true)
+                .help("The directory to which `stream --out DIR` writes"),
         )?
         .arg(
             Arg::new(alloc, "name")
@@ -87,7 +88,15 @@ pub(crate) fn carry_out_follow<T: Files + Clock, W: Write, E: Write>(
 ) -> u8
     ensures { result ≤ 1 }
 {
-    match follow(rt, alloc, asked.folder, asked.ring, asked.from, out, asked.form) {
+    match follow(
+        rt,
+        alloc,
+        asked.folder,
+        asked.ring,
+        asked.from,
+        out,
+        asked.form,
+    ) {
         Ok(()) => 0,
         Err(refusal) => {
             let _ = writeln!(err, "refused {refusal}");

@@ -33,7 +33,14 @@ where
         return print_refusal(StreamRefusal::Memory, err);
     };
     let answer = stream(
-        rt, alloc, options, &OpenGate, &metrics, input, out, &mut counters,
+        rt,
+        alloc,
+        options,
+        &OpenGate,
+        &metrics,
+        input,
+        out,
+        &mut counters,
     );
     let is_printed = write_whole(err, counters.as_slice()).is_ok();
     match answer {

@@ -60,18 +60,26 @@ pub(crate) fn stream<'a>(alloc: Global) -> Result<Command<'a>, AllocError> {
                 "A directory to which tapes are written in segments; or the file to which the tape of one ring is written, - for standard output. Other rings are consumed and counted",
             ),
         )?
-        .arg(one(alloc, "segment").value_name("N").help(
-            "Close a segment once it has N bytes, 256M by default; K, M and G stand for KiB, MiB and GiB",
-        ))?
-        .arg(one(alloc, "keep").value_name("N").help(
-            "Delete the oldest segments of a ring beyond N bytes; all are kept by default",
-        ))?
-        .arg(one(alloc, "metrics").value_name("FILE").help(
-            "Write counters to this file in the text format of Prometheus, at the end and while it runs",
-        ))?
-        .arg(one(alloc, "every").value_name("S").help(
-            "Write them every S seconds, 10 by default; at the end only if S is 0",
-        ))?
+        .arg(
+            one(alloc, "segment").value_name("N").help(
+                "Close a segment once it has N bytes, 256M by default; K, M and G stand for KiB, MiB and GiB",
+            ),
+        )?
+        .arg(
+            one(alloc, "keep").value_name("N").help(
+                "Delete the oldest segments of a ring beyond N bytes; all are kept by default",
+            ),
+        )?
+        .arg(
+            one(alloc, "metrics").value_name("FILE").help(
+                "Write counters to this file in the text format of Prometheus, at the end and while it runs",
+            ),
+        )?
+        .arg(
+            one(alloc, "every").value_name("S").help(
+                "Write them every S seconds, 10 by default; at the end only if S is 0",
+            ),
+        )?
         .arg(
             one(alloc, "late").value_name("LATE").help(
                 "What happens if all workers are behind: block makes the input wait (the default), drop drops contexts and counts them",

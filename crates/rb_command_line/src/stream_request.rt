@@ -59,7 +59,11 @@ impl<'a> Values<'_, 'a> {
                 return Err(self.wrong("ring", text, SIZES)?);
             };
             if !is_plain(name) {
-                return Err(self.wrong("ring", text, "NAME:SIZE with a name of letters, digits, - and _")?);
+                return Err(self.wrong(
+                    "ring",
+                    text,
+                    "NAME:SIZE with a name of letters, digits, - and _",
+                )?);
             }
             if rings.len() >= 16 || is_named(rings.as_slice(), name) {
                 return Err(self.wrong(
@@ -127,10 +131,12 @@ impl<'a> Values<'_, 'a> {
             None => 10,
             Some(_) => self.bounded("every", 0, 86_400)?,
         };
-        Ok(self.options.get_str("metrics").map(|path| MetricsFile {
-            path,
-            every: u64::from(every),
-        }))
+        Ok(
+            self.options.get_str("metrics").map(|path| MetricsFile {
+                path,
+                every: u64::from(every),
+            }),
+        )
     }
 
     fn framing(&self) -> Result<Framing, Error> {
@@ -170,9 +176,7 @@ impl<'a> Values<'_, 'a> {
 // Whether a name may be a part of a file's name, and of a label of metrics.
 fn is_plain(name: &str) -> bool {
     !name.is_empty()
-        && name
-            .bytes()
-            .all(|byte| byte.is_ascii_alphanumeric() || byte == b'-' || byte == b'_')
+        && name.bytes().all(|byte| byte.is_ascii_alphanumeric() || byte == b'-' || byte == b'_')
 }
 
 // Whether a ring has this name.

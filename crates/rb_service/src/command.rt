@@ -95,7 +95,15 @@ fn stream_from<
         results: options.results,
     };
     match serve(rt, alloc, programs, &mut source, plans, request) {
-        Ok(report) => report_on(rt, alloc, options, report, source.counts(), metrics, printed),
+        Ok(report) => report_on(
+            rt,
+            alloc,
+            options,
+            report,
+            source.counts(),
+            metrics,
+            printed,
+        ),
         Err(fault) => Err(StreamRefusal::Service(fault)),
     }
 }
@@ -158,10 +166,30 @@ fn stream_allowed<
     let rings = options.rings.len().min(16) as u32;
     let programs = read_programs(rt, alloc, options, Bounds { ctx_len, rings })?;
     let Some(folder) = options.folder else {
-        return stream_planned(rt, alloc, options, programs.as_slice(), gate, metrics, input, out, printed);
+        return stream_planned(
+            rt,
+            alloc,
+            options,
+            programs.as_slice(),
+            gate,
+            metrics,
+            input,
+            out,
+            printed,
+        );
     };
     let lock = lock(rt, alloc, folder)?;
-    let answer = stream_planned(rt, alloc, options, programs.as_slice(), gate, metrics, input, out, printed);
+    let answer = stream_planned(
+        rt,
+        alloc,
+        options,
+        programs.as_slice(),
+        gate,
+        metrics,
+        input,
+        out,
+        printed,
+    );
     drop(lock);
     answer
 }

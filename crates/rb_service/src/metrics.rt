@@ -1,7 +1,8 @@
 //! The metrics of a stream, in the text format of Prometheus, for the textfile collector of node_exporter. Tests show what is written; no contract speaks of it.
 
 use crate::metrics_text::{
-    EndTotals, TAPE_KINDS, push_contexts, push_end, push_kind, push_records, push_results, push_tape,
+    EndTotals, TAPE_KINDS, push_contexts, push_end, push_kind, push_records, push_results,
+    push_tape,
 };
 use crate::options::{MetricsFile, NamedRing};
 use crate::watch::{OutputTotals, StreamWatch};
@@ -14,6 +15,7 @@ use std::sync::atomic::{AtomicU64, Ordering};
 use std::time::Clock;
 
 /// Holds what is known of a running stream, writes it to a file, and prints a line on standard error for each context that was skipped.
+#[derive(Drop)]
 pub struct StreamMetrics<'a, T> {
     rt: &'a T,
     alloc: Global,
@@ -123,12 +125,23 @@ impl<'a, T: Files<File = File> + Clock + Eprint> StreamMetrics<'a, T> {
         }
         for ring in 0..self.rings.len() {
             let counts = end.and_then(|end| end.rings.get(ring).copied());
-            push_records(&mut text, ring == 0, self.rings[ring].name, self.rings[ring].load(), counts)?;
+            push_records(
+                &mut text,
+                ring == 0,
+                self.rings[ring].name,
+                self.rings[ring].load(),
+                counts,
+            )?;
         }
         for kind in TAPE_KINDS {
             push_kind(&mut text, kind)?;
             for ring in 0..self.rings.len() {
-                push_tape(&mut text, kind, self.rings[ring].name, self.rings[ring].load())?;
+                push_tape(
+                    &mut text,
+                    kind,
+                    self.rings[ring].name,
+                    self.rings[ring].load(),
+                )?;
             }
         }
         push_end(&mut text, end, since_1970(self.rt))?;
@@ -146,7 +159,13 @@ impl<'a, T: Files<File = File> + Clock + Eprint> StreamMetrics<'a, T> {
     // Whether the file is to be written again.
     fn is_due(&self, file: MetricsFile<'a>) -> bool {
         let second = monotonic(self.rt);
-        if file.every == 0 || second < self.written.load(Ordering::SeqCst).saturating_add(file.every) {
+        if file.every == 0
+            || second
+                < self
+                    .written
+                    .load(Ordering::SeqCst)
+                    .saturating_add(file.every)
+        {
             return false;
         }
         self.written.store(second, Ordering::SeqCst);
@@ -160,7 +179,9 @@ impl<'a, T: Files<File = File> + Clock + Eprint> StreamWatch for StreamMetrics<'
         self.cut.store(counts.cut, Ordering::SeqCst);
         let before = self.skipped.swap(counts.skipped, Ordering::SeqCst);
         for number in before..counts.skipped {
-            let _ = eprint!(self.rt; "skipped context of another length, number {number} of these\n");
+            let _ = eprint!(self.rt;
+                "skipped context of another length, number {number} of these\n"
+            );
         }
     }
 

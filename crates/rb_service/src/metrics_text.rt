@@ -37,7 +37,10 @@ pub(crate) const TAPE_KINDS: [TapeKind; 3] = [TapeKind::End, TapeKind::Oldest, T
 
 // Appends the lines before the samples of a metric.
 fn push_front(text: &mut String, name: &str, kind: &str, help: &str) -> Result<(), AllocError> {
-    writeln!(text, "# HELP heskavo_{name} {help}\n# TYPE heskavo_{name} {kind}")
+    writeln!(
+        text,
+        "# HELP heskavo_{name} {help}\n# TYPE heskavo_{name} {kind}"
+    )
 }
 
 /// Appends the contexts by state.
@@ -46,7 +49,12 @@ pub(crate) fn push_contexts(
     counts: ContextCounts,
     end: Option<&EndTotals>,
 ) -> Result<(), AllocError> {
-    push_front(text, "contexts_total", "counter", "Contexts by state; those that were read were run, dropped or skipped.")?;
+    push_front(
+        text,
+        "contexts_total",
+        "counter",
+        "Contexts by state; those that were read were run, dropped or skipped.",
+    )?;
     push_context(text, "read", counts.given.saturating_add(counts.skipped))?;
     push_context(text, "skipped", counts.skipped)?;
     push_context(text, "cut", counts.cut)?;
@@ -63,7 +71,12 @@ fn push_context(text: &mut String, state: &str, count: u64) -> Result<(), AllocE
 
 /// Appends the results of each program.
 pub(crate) fn push_results(text: &mut String, end: &EndTotals) -> Result<(), AllocError> {
-    push_front(text, "runs_total", "counter", "Runs of programs by their result.")?;
+    push_front(
+        text,
+        "runs_total",
+        "counter",
+        "Runs of programs by their result.",
+    )?;
     for program in 0..end.results.len() {
         let counts = &end.results[program];
         for value in 0..counts.below.len() {
@@ -76,7 +89,10 @@ pub(crate) fn push_results(text: &mut String, end: &EndTotals) -> Result<(), All
             }
         }
         let runs = counts.other;
-        writeln!(text, "heskavo_runs_total{{program=\"{program}\",result=\"other\"}} {runs}")?;
+        writeln!(
+            text,
+            "heskavo_runs_total{{program=\"{program}\",result=\"other\"}} {runs}"
+        )?;
     }
     Ok(())
 }
@@ -90,7 +106,12 @@ pub(crate) fn push_records(
     counts: Option<Counts>,
 ) -> Result<(), AllocError> {
     if is_first {
-        push_front(text, "records_total", "counter", "Records by ring and state; those that were made were consumed or discarded at the end.")?;
+        push_front(
+            text,
+            "records_total",
+            "counter",
+            "Records by ring and state; those that were made were consumed or discarded at the end.",
+        )?;
     }
     push_record(text, ring, "consumed", totals.consumed)?;
     push_record(text, ring, "discarded", totals.discarded)?;
@@ -103,7 +124,10 @@ pub(crate) fn push_records(
 }
 
 fn push_record(text: &mut String, ring: &str, state: &str, count: u64) -> Result<(), AllocError> {
-    writeln!(text, "heskavo_records_total{{ring=\"{ring}\",state=\"{state}\"}} {count}")
+    writeln!(
+        text,
+        "heskavo_records_total{{ring=\"{ring}\",state=\"{state}\"}} {count}"
+    )
 }
 
 fn name_of(kind: TapeKind) -> &'static str {
@@ -148,9 +172,19 @@ pub(crate) fn push_end(
 ) -> Result<(), AllocError> {
     if let Some(end) = end {
         let unlogged = end.unlogged;
-        push_front(text, "unlogged_total", "counter", "Reservations and outputs that failed for another reason than a full ring.")?;
+        push_front(
+            text,
+            "unlogged_total",
+            "counter",
+            "Reservations and outputs that failed for another reason than a full ring.",
+        )?;
         writeln!(text, "heskavo_unlogged_total {unlogged}")?;
     }
-    push_front(text, "written_seconds", "gauge", "The time at which these metrics were written, in seconds since 1970.")?;
+    push_front(
+        text,
+        "written_seconds",
+        "gauge",
+        "The time at which these metrics were written, in seconds since 1970.",
+    )?;
     writeln!(text, "heskavo_written_seconds {seconds}")
 }

@@ -23,8 +23,13 @@ use std::rt::Files;
 use std::time::Clock;
 
 /// The output of a ring: a tape on `W` or in a file, segments in a directory, or nothing.
-type Output<'a, T, W> =
-    RingOutput<'a, Buffered<W>, Buffered<File>, DirectoryStore<'a, T>, SegmentFile<File>>;
+type Output<'a, T, W> = RingOutput<
+    'a,
+    Buffered<W>,
+    Buffered<File>,
+    DirectoryStore<'a, T>,
+    SegmentFile<File>,
+>;
 
 /// The same, of which metrics receive the totals.
 pub(crate) type MeasuredOutput<'a, T, W> = WatchedOutput<

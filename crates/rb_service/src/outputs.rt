@@ -35,13 +35,13 @@ pub enum OutputEnd {
     Failed,
 }
 
-impl<'w, A: Outgoing + Drop, B: Outgoing + Drop, S: SegmentStore<F> + Drop, F: Outgoing + Drop> RingOutput<
+impl<
     'w,
-    A,
-    B,
-    S,
-    F,
-> {
+    A: Outgoing + Drop,
+    B: Outgoing + Drop,
+    S: SegmentStore<F> + Drop,
+    F: Outgoing + Drop,
+> RingOutput<'w, A, B, S, F> {
     ghost use Rattle.std.specs.Prelude.{◌≡◌, ◌≢◌, false};
     ghost use Rattle.rb_service.specs.Outputs.{has_failed};
 
@@ -58,7 +58,13 @@ impl<'w, A: Outgoing + Drop, B: Outgoing + Drop, S: SegmentStore<F> + Drop, F: O
     }
 }
 
-impl<'w, A: Outgoing, B: Outgoing, S: SegmentStore<F>, F: Outgoing + Drop> RingOutput<'w, A, B, S, F> {
+impl<'w, A: Outgoing, B: Outgoing, S: SegmentStore<F>, F: Outgoing + Drop> RingOutput<
+    'w,
+    A,
+    B,
+    S,
+    F,
+> {
     /// Returns where the tape begins and ends, and what was deleted and not written. The records are not counted.
     pub fn totals(&self) -> OutputTotals {
         let mut totals = OutputTotals::default();

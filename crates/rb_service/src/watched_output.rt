@@ -69,14 +69,14 @@ impl<
     }
 }
 
-impl<'w, A: Outgoing, B: Outgoing, S: SegmentStore<F>, F: Outgoing + Drop, M: StreamWatch> WatchedOutput<
+impl<
     'w,
-    A,
-    B,
-    S,
-    F,
-    M,
-> {
+    A: Outgoing,
+    B: Outgoing,
+    S: SegmentStore<F>,
+    F: Outgoing + Drop,
+    M: StreamWatch,
+> WatchedOutput<'w, A, B, S, F, M> {
     // Reports the totals.
     fn report(&self) {
         let totals = OutputTotals {
