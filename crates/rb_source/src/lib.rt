@@ -12,8 +12,6 @@ mod listed;
 mod long;
 mod piece;
 mod source;
-#[cfg(test)]
-mod tests;
 mod window;
 
 pub use agreement::sources_agree;

@@ -4,12 +4,9 @@ ghost use Rattle.std.specs.Prelude.{◌≡◌, ◌<◌};
 ghost use Rattle.rb_source.specs.declared.framing.Framing.TheVariants.{Fixed};
 ghost use Rattle.rb_source.specs.Form.{IsForm};
 
-use crate::counts::ContextCounts;
-use crate::form::{Fit, Form};
-use crate::framed::FramedReader;
-use crate::framing::Framing;
-use crate::piece::Piece;
-use crate::source::{Filled, Source, SourceFault};
+use rb_source::{
+    ContextCounts, Filled, Fit, Form, FramedReader, Framing, Piece, Source, SourceFault,
+};
 use std::alloc::{AllocError, Global};
 use std::io::{Error, ErrorKind, Read, Result as IoResult};
 use std::process::Abort;

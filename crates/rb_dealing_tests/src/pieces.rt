@@ -1,10 +1,6 @@
 //! Tests of pieces and lists, with ample memory.
 
-mod framed_streams;
-
-use crate::listed::ListSource;
-use crate::piece::Piece;
-use crate::source::{Filled, Source};
+use rb_source::{Filled, ListSource, Piece, Source};
 use std::process::Abort;
 use std::rt::HostRuntime;
 
