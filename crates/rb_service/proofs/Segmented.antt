@@ -1,5 +1,7 @@
 -- What an output in segments is given.
-use Rattle.std.proofs.Common.{◌≡◌, ℕ, Bool, List, [], ◌∷◌, ◌++◌, Option, refl, sym, subst, append_assoc, append-nil}
+use Rattle.std.proofs.Common.{◌≡◌, ℕ, Bool, List, [], ◌∷◌, ◌++◌, Option, None, Some, false, refl, sym, subst, ◌∙◌, append_assoc, append-nil}
+use Rattle.std.specs.Prelude.{IsSome}
+use Rattle.rb_segments.specs.declared.fault.SegmentFault.{SegmentFault}
 use Rattle.rb_history.specs.TapeBytes.{Item}
 use Rattle.rb_segments.specs.Segments.{Segment}
 use Rattle.rb_segments.specs.SegmentTape.{HasWritten, SegmentTape, WritesRecord}
@@ -10,7 +12,7 @@ use Rattle.rb_workers.specs.Sink.SinkItem.{Record, Chapter, CaughtUp}
 use Rattle.rb_history.specs.declared.answers.Taken.TheVariants.{Event, Skipped, BusyFront, Empty}
 use Rattle.rb_run_commands.specs.TapedRun.{sink_tape_items}
 use Rattle.rb_run_commands.proofs.TapeGiven.{lent_is}
-use Rattle.rb_service.specs.Outputs.{ContinuesWith, output_takes}
+use Rattle.rb_service.specs.Outputs.{ContinuesWith, has_fault, output_takes}
 use Rattle.rb_service.specs.declared.outputs.RingOutput.{RingOutput}
 use Rattle.rb_service.specs.declared.outputs.RingOutput.TheVariants.{Stream, File, Segments, Nowhere}
 
@@ -22,6 +24,14 @@ first_of (Record BusyFront) items = refl
 first_of (Record Empty) items = refl
 first_of (Chapter c) items = refl
 first_of CaughtUp items = refl
+
+-- an answer that keeps a fault has none only if there was none
+some_or_none : (fault : SegmentFault) → ◌≡◌ {A = Option SegmentFault} (Some fault) None → ⊥
+some_or_none fault e = cc
+
+pub no_fault : (fault answer : Option SegmentFault) → (IsSome fault → answer ≡ fault) → answer ≡ None → has_fault fault ≡ false
+no_fault None answer keeps is = refl
+no_fault (Some fault) answer keeps is = absurd (some_or_none fault (sym (keeps tt) ∙ is))
 
 module _ {S F : Type 0} (segments : S → Option (List Segment)) (contents : F → Option (List ℕ)) where
   -- a record was written, or counted

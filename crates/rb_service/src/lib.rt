@@ -30,9 +30,6 @@ pub use outputs::{OutputEnd, RingOutput};
 pub use refusal::StreamRefusal;
 pub use rings::RingPlan;
 pub use service::{ServiceFault, ServiceRequest, serve};
-pub use watch::{OutputTotals, StreamWatch};
-pub use watched_output::WatchedOutput;
-pub use watched_source::WatchedSource;
 
 #[cfg(test)]
 mod tests;

@@ -1,7 +1,7 @@
 //! The metrics of a stream, in the text format of Prometheus, for the textfile collector of node_exporter. Tests show what is written; no contract speaks of it.
 
 use crate::metrics_text::{
-    EndTotals, TAPE_KINDS, push_contexts, push_end, push_kind, push_records, push_results,
+    EndTotals, TAPE_GAUGES, push_contexts, push_end, push_gauge, push_records, push_results,
     push_tape,
 };
 use crate::options::{MetricsFile, NamedRing};
@@ -133,8 +133,8 @@ impl<'a, T: Files<File = File> + Clock + Eprint> StreamMetrics<'a, T> {
                 counts,
             )?;
         }
-        for kind in TAPE_KINDS {
-            push_kind(&mut text, kind)?;
+        for kind in TAPE_GAUGES {
+            push_gauge(&mut text, kind)?;
             for ring in 0..self.rings.len() {
                 push_tape(
                     &mut text,

@@ -23,7 +23,7 @@ pub(crate) struct EndTotals {
 
 /// A number of a ring's tape.
 #[derive(Clone, Copy)]
-pub(crate) enum TapeKind {
+pub(crate) enum TapeGauge {
     /// The position of the next record.
     End,
     /// The position of the oldest record that was not deleted.
@@ -33,7 +33,11 @@ pub(crate) enum TapeKind {
 }
 
 /// All kinds of numbers of a tape.
-pub(crate) const TAPE_KINDS: [TapeKind; 3] = [TapeKind::End, TapeKind::Oldest, TapeKind::Deleted];
+pub(crate) const TAPE_GAUGES: [TapeGauge; 3] = [
+    TapeGauge::End,
+    TapeGauge::Oldest,
+    TapeGauge::Deleted,
+];
 
 // Appends the lines before the samples of a metric.
 fn push_front(text: &mut String, name: &str, kind: &str, help: &str) -> Result<(), AllocError> {
@@ -130,20 +134,20 @@ fn push_record(text: &mut String, ring: &str, state: &str, count: u64) -> Result
     )
 }
 
-fn name_of(kind: TapeKind) -> &'static str {
+fn name_of(kind: TapeGauge) -> &'static str {
     match kind {
-        TapeKind::End => "tape_end_position",
-        TapeKind::Oldest => "tape_oldest_position",
-        TapeKind::Deleted => "tape_deleted_bytes",
+        TapeGauge::End => "tape_end_position",
+        TapeGauge::Oldest => "tape_oldest_position",
+        TapeGauge::Deleted => "tape_deleted_bytes",
     }
 }
 
 /// Appends the lines before the samples of a number of tapes.
-pub(crate) fn push_kind(text: &mut String, kind: TapeKind) -> Result<(), AllocError> {
+pub(crate) fn push_gauge(text: &mut String, kind: TapeGauge) -> Result<(), AllocError> {
     let help = match kind {
-        TapeKind::End => "The position of the next record of a ring's tape.",
-        TapeKind::Oldest => "The position of the oldest record that was not deleted.",
-        TapeKind::Deleted => "Bytes of a ring's tape that this host deleted.",
+        TapeGauge::End => "The position of the next record of a ring's tape.",
+        TapeGauge::Oldest => "The position of the oldest record that was not deleted.",
+        TapeGauge::Deleted => "Bytes of a ring's tape that this host deleted.",
     };
     push_front(text, name_of(kind), "gauge", help)
 }
@@ -151,15 +155,15 @@ pub(crate) fn push_kind(text: &mut String, kind: TapeKind) -> Result<(), AllocEr
 /// Appends a number of a ring's tape.
 pub(crate) fn push_tape(
     text: &mut String,
-    kind: TapeKind,
+    kind: TapeGauge,
     ring: &str,
     totals: OutputTotals,
 ) -> Result<(), AllocError> {
     let name = name_of(kind);
     let value = match kind {
-        TapeKind::End => totals.position,
-        TapeKind::Oldest => totals.oldest,
-        TapeKind::Deleted => totals.deleted,
+        TapeGauge::End => totals.position,
+        TapeGauge::Oldest => totals.oldest,
+        TapeGauge::Deleted => totals.deleted,
     };
     writeln!(text, "heskavo_{name}{{ring=\"{ring}\"}} {value}")
 }

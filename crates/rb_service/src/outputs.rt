@@ -66,7 +66,7 @@ impl<'w, A: Outgoing, B: Outgoing, S: SegmentStore<F>, F: Outgoing + Drop> RingO
     F,
 > {
     /// Returns where the tape begins and ends, and what was deleted and not written. The records are not counted.
-    pub fn totals(&self) -> OutputTotals {
+    pub(crate) fn totals(&self) -> OutputTotals {
         let mut totals = OutputTotals::default();
         totals.position = self.position();
         if let RingOutput::Segments(tape) = self {
@@ -90,6 +90,7 @@ fn finish_tape<W: Outgoing + Drop>(tape: TapeSink<'_, W, OpenGate>) -> OutputEnd
 }
 
 // Ends the tape in order, and returns where it ends if all of it was written.
+#[tactic(auto, using(crate::proofs::Segmented::no_fault))]
 fn finish_segments<S: SegmentStore<F> + Drop, F: Outgoing + Drop>(
     tape: SegmentWriter<S, F>,
 ) -> OutputEnd
@@ -119,6 +120,7 @@ impl<'w, A: Outgoing, B: Outgoing, S: SegmentStore<F>, F: Outgoing + Drop> Sink
         }
     }
 
+    #[tactic(auto, using(crate::proofs::Segmented::continues_record))]
     fn record(&mut self, item: &Item<'_>) {
         match self {
             RingOutput::Stream(tape) => tape.record(item),
@@ -128,6 +130,7 @@ impl<'w, A: Outgoing, B: Outgoing, S: SegmentStore<F>, F: Outgoing + Drop> Sink
         }
     }
 
+    #[tactic(auto, using(crate::proofs::Segmented::continues_same))]
     fn chapter(&mut self, chapter: &Chapter) {
         match self {
             RingOutput::Stream(tape) => tape.chapter(chapter),
@@ -137,6 +140,7 @@ impl<'w, A: Outgoing, B: Outgoing, S: SegmentStore<F>, F: Outgoing + Drop> Sink
         }
     }
 
+    #[tactic(auto, using(crate::proofs::Segmented::continues_same))]
     fn caught_up(&mut self) {
         match self {
             RingOutput::Stream(tape) => tape.caught_up(),

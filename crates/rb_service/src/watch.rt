@@ -4,7 +4,7 @@ use rb_source::ContextCounts;
 
 /// What a ring's output has received, and where its tape begins and ends.
 #[derive(Clone, Copy, Debug, Default, PartialEq, Eq)]
-pub struct OutputTotals {
+pub(crate) struct OutputTotals {
     /// The number of submitted records.
     pub consumed: u64,
     /// The number of discarded records.
@@ -20,7 +20,7 @@ pub struct OutputTotals {
 }
 
 /// Receives the state of a stream, from the thread that reads contexts and from the consumer of each ring.
-pub trait StreamWatch {
+pub(crate) trait StreamWatch {
     /// Receives the counts of contexts after some were read.
     fn read(&self, counts: ContextCounts);
 

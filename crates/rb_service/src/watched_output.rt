@@ -10,7 +10,7 @@ use rb_workers::Sink;
 
 /// The output of a ring, of which a watch receives the totals.
 #[derive(Drop)]
-pub struct WatchedOutput<'w, A, B, S: SegmentStore<F>, F: Outgoing + Drop, M> {
+pub(crate) struct WatchedOutput<'w, A, B, S: SegmentStore<F>, F: Outgoing + Drop, M> {
     pub(crate) output: RingOutput<'w, A, B, S, F>,
     watch: &'w M,
     // The number of the ring.
@@ -32,7 +32,7 @@ impl<
     ghost use Rattle.rb_service.specs.Outputs.{has_failed};
 
     /// Returns the output of the ring of this number, watched.
-    pub fn new(
+    pub(crate) fn new(
         output: RingOutput<'w, A, B, S, F>,
         ring: usize,
         watch: &'w M,
@@ -49,7 +49,7 @@ impl<
     }
 
     /// Flushes the output, and returns whether all of it was written. The watch receives the totals.
-    pub fn finish(self) -> OutputEnd
+    pub(crate) fn finish(self) -> OutputEnd
         ensures whole { result ≢ OutputEnd.Failed → has_failed self.entry.output ≡ false }
     {
         let WatchedOutput {

@@ -6,7 +6,7 @@ use std::io::Read;
 
 /// Gives the contexts of a reader, and reports their counts after each piece.
 #[derive(Drop)]
-pub struct WatchedSource<'w, R, M> {
+pub(crate) struct WatchedSource<'w, R, M> {
     source: FramedReader<R>,
     watch: &'w M,
 }
@@ -15,14 +15,14 @@ impl<'w, R: Read, M: StreamWatch> WatchedSource<'w, R, M> {
     ghost use Rattle.std.specs.Prelude.{◌≡◌};
 
     /// Returns a source that gives the contexts of this one.
-    pub fn new(source: FramedReader<R>, watch: &'w M) -> WatchedSource<'w, R, M>
+    pub(crate) fn new(source: FramedReader<R>, watch: &'w M) -> WatchedSource<'w, R, M>
         ensures source { result.source ≡ source }
     {
         WatchedSource { source, watch }
     }
 
     /// Returns the counts of the contexts so far.
-    pub fn counts(&self) -> ContextCounts
+    pub(crate) fn counts(&self) -> ContextCounts
         ensures value { result ≡ self.now.source.counts }
     {
         self.source.counts()
