@@ -94,7 +94,7 @@ fn finish_tape<W: Outgoing + Drop>(tape: TapeSink<'_, W, OpenGate>) -> OutputEnd
 fn finish_segments<S: SegmentStore<F> + Drop, F: Outgoing + Drop>(
     tape: SegmentWriter<S, F>,
 ) -> OutputEnd
-    ensures whole { result ≢ OutputEnd.Failed → has_fault tape.entry.fault ≡ false }
+    ensures whole { result ≢ OutputEnd.Failed → has_fault tape.fault ≡ false }
 {
     let position = tape.position();
     match tape.finish() {

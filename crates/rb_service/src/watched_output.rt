@@ -37,7 +37,7 @@ impl<
         ring: usize,
         watch: &'w M,
     ) -> WatchedOutput<'w, A, B, S, F, M>
-        ensures output { result.output ≡ output }
+        ensures output { result.output ≡ output.entry }
     {
         WatchedOutput {
             output,
