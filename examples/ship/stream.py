@@ -53,16 +53,18 @@ class Stream:
             raise Failure(f"what answers at port {port} of 127.0.0.1 is not a Redis server: {error}") from None
 
     def patiently(self, call: Callable[[], Result], seconds: int = PATIENCE) -> Result:
-        """Returns the result of a call of the server. While the server is away, repeats the call for this many seconds."""
-        end = time.monotonic() + seconds
+        """Returns the result of a call of the server. While the server is away, repeats the call for this many seconds; while it loads its data, for
+        `PATIENCE` seconds."""
+        began = time.monotonic()
         while True:
             try:
                 return call()
             except redis.AuthenticationError:
                 raise
             except AWAY as error:
-                if time.monotonic() > end:
-                    raise Failure(f"no Redis server answers at port {self.port} of 127.0.0.1, for {seconds} seconds: {error}") from None
+                limit = PATIENCE if isinstance(error, redis.BusyLoadingError) else seconds
+                if time.monotonic() > began + limit:
+                    raise Failure(f"no Redis server answers at port {self.port} of 127.0.0.1, for {limit} seconds: {error}") from None
                 time.sleep(0.05)
 
     def between(self, first: int, last: int) -> list[Record]:

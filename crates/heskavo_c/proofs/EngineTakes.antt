@@ -1,4 +1,4 @@
--- What a take finds at the front of an engine's ring.
+-- The record that a take finds at the front of an engine's ring.
 use Rattle.std.proofs.Common.{◌≡◌, ℕ, ◌≤◌, List, length, set, Option, Some, sym, ap, ◌∙◌, subst, arith}
 use Rattle.std.proofs.lemmas.List.{set-get_or}
 use Rattle.std.proofs.lemmas.Option.{get_or_from_slice_get}
@@ -12,7 +12,7 @@ some-same : (x y : HandRing) → ◌≡◌ {A = Option HandRing} (Some x) (Some 
 some-same x y e = cc
 
 module _ (ring len : ℕ) (rings : List HandRing) where
-  -- the one record that waits at the front is no longer than this
+  -- the record that waits at the front is not longer than this
   pub fits-some : (n : ℕ) → OfRing ring (λ v. HasWaitingFront v n) rings → n ≤ len → OfRing ring (λ v. (m : ℕ) → HasWaitingFront v m → m ≤ len) rings
   fits-some n at low = record {
     asked = at.asked;
@@ -23,7 +23,7 @@ module _ (ring len : ℕ) (rings : List HandRing) where
   pub fits-none : OfRing ring (λ v. (n : ℕ) → ¬ HasWaitingFront v n) rings → OfRing ring (λ v. (m : ℕ) → HasWaitingFront v m → m ≤ len) rings
   fits-none at = record { asked = at.asked; asked_is = at.asked_is; holds = λ m front. absurd (at.holds m front) }
 
-  -- so a record that is taken has room
+  -- so a record that is taken fits
   pub event-fits : (p w k : ℕ) (bytes : List ℕ) → OfRing ring (λ v. (m : ℕ) → HasWaitingFront v m → m ≤ len) rings → OfRing ring (λ v. WasFront (Event p w k bytes) v) rings → length bytes ≤ len
   event-fits p w k bytes fits front =
       let same : front.asked ≡ fits.asked = some-same front.asked fits.asked (sym front.asked_is ∙ fits.asked_is) in

@@ -1,10 +1,10 @@
--- What stands at the front of a buffer grows by what is put behind it.
+-- The front of a buffer grows by the bytes that are written after it.
 use Rattle.std.proofs.Common.{◌≡◌, ℕ, ◌+◌, List, ◌++◌, length, take, drop, refl, ◌∙◌, sym, ap, arith, length-append}
 use Rattle.std.proofs.lemmas.Slice.{drop-append-drop}
 use Rattle.std.proofs.lemmas.List.{take_at}
 use Rattle.heskavo_c.specs.Writing.{WritesFront}
 
--- `bytes` was put behind a front that was written before
+-- `bytes` was written after a front that was written before
 pub front_grows : (front bytes old was now : List ℕ) (at end : ℕ) → length front ≡ at → end ≡ at + length bytes → WritesFront front old was
     → now ≡ take at was ++ bytes ++ drop end was → WritesFront (front ++ bytes) old now
 front_grows front bytes old was now at end here ends wrote is =

@@ -1,4 +1,4 @@
--- The machine value of a handle, and what it owns by cases. Assumes `Logic`.
+-- The machine value of a handle, and what it owns in each case. Assumes `Logic`.
 use Rattle.std.proofs.Common.{◌≡◌, ℕ, List, [], ◌∷◌, ◌++◌, refl, subst, None, Some}
 use seplogic.Ra.Ura.{Ura}
 use mir.Raw.{raw as bare}

@@ -28,7 +28,7 @@ use Rattle.heskavo_c.specs.contracts.loose.Loose as loose
 abbrev pub Good : mir.Syntax.Ty → Val → Type 0
 Good τ v = T (has_ty τ v) × WT v
 
--- what is owned of one machine value has one
+-- a list of values of one machine type has one value
 pub one : (τ : mir.Syntax.Ty) (vs : List Val) → Typed (τ ∷ []) vs → (v : Val) × (vs ≡ v ∷ []) × Good τ v
 one τ [] t = absurd t
 one τ (v ∷ []) t = (v, refl, t.0)

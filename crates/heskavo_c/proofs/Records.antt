@@ -1,4 +1,4 @@
--- A record that was put into a buffer as its header, its payload and zeros is that item of a tape.
+-- A record that was written to a buffer as its header, its payload and zeros is that item of a tape.
 use Rattle.std.proofs.Common.{◌≡◌, ℕ, ◌+◌, ◌-◌, ◌<◌, ◌≤◌, List, [], ◌++◌, length, replicate, ◌∙◌, sym, ap, subst, arith}
 use Rattle.std.proofs.lemmas.List.{append-nil, append_assoc, replicate-append-replicate}
 use Rattle.rb_history.specs.Header.{header_bytes}
@@ -21,7 +21,7 @@ module _ (size position : ℕ) (old new : List ℕ) where
   item_put item written here room told wrote = record { stands = stands item here room; bytes = wrote; written_is = told }
 
 module _ (size position : ℕ) (header old new : List ℕ) where
-  -- as many zeros as fill the record up to its span
+  -- the number of zeros that fill the record up to its span
   filling : (n zero_count : ℕ) → zero_count ≡ span n - 8 - n → zero_count ≡ padding n
   filling n zero_count is = omega (arith, is)
 

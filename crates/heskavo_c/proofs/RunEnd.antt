@@ -1,4 +1,4 @@
--- A program that runs alone over fresh rings may be run so, ends, and leaves in each ring what was taken of it and stands on a tape.
+-- A program may run alone over fresh rings; it ends, and what was taken from each ring forms a tape.
 use Rattle.std.proofs.Common.{◌≡◌, ◌≢◌, ℕ, zero, suc, ◌+◌, ◌<◌, ◌≤◌, inl, inr, ◌↔◌, cond, List, [], ◌∷◌, ◌++◌, map, length, get_or, replicate, Result, Err, IsSome, refl, sym, ap, subst, ◌∙◌, append_assoc, append-nil, arith}
 use Rattle.std.specs.Prelude.{All}
 use Rattle.std.specs.List.{AllZip}
@@ -43,7 +43,7 @@ use Rattle.heskavo_c.specs.Runs.{IsDrained, RunEnds, RunsAlone, fresh_ring, item
 
 -- ---- the turns of a run
 
--- those of the consumers
+-- the turns of the consumers
 abbrev takes : ℕ → ℕ → List Actor
 takes units zero = []
 takes units (suc ring) = takes units ring ++ replicate units (Consumer ring)
@@ -77,7 +77,7 @@ own-takes r s (suc n) same =
     let rest = own-takes r s n same in
     omega (arith, first, one, rest)
 
--- a ring's consumer has as many as there are units
+-- each ring's consumer has as many turns as there are units
 each-takes : (units rings r : ℕ) → r < rings → units ≤ takes_of r (takes units rings)
 each-takes units zero r low = absurd (omega (arith, low))
 each-takes units (suc ring) r low =
@@ -88,7 +88,7 @@ each-takes units (suc ring) r low =
       | inr more ↦ let own = own-takes r ring units (omega (arith, low, more)) in omega (arith, sum, own)
     ]
 
--- ---- no turn was refused memory
+-- ---- no turn failed for lack of memory
 
 memory-alone : (done : TurnDone) → TellsEvent done NoMemory → done ≡ answer.Memory
 memory-alone answer.Went t = absurd t
@@ -113,7 +113,7 @@ all-right : {X : Type 0} (P : X → Type 0) (xs ys : List X) → All P (xs ++ ys
 all-right P [] ys all = all
 all-right P (x ∷ xs) ys all = all-right P xs ys (All-tail P x (xs ++ ys) all)
 
--- ---- the world that a run begins in
+-- ---- the first world of a run
 
 first-subject : (x : WorkerSetup) (ms : List (MachineState WorldRecord)) → AllZip IsStarted (x ∷ []) ms → (get_or (map worker_of ms) 0 no_worker).subject ≡ x.program.now
 first-subject x [] started = absurd started
@@ -139,7 +139,7 @@ may-open n size worker rings are bounds context known few =
       rooms = subst HaveRooms (sym are) (All-replicate (λ s. IsChapterRoom s.room) n (fresh_ring size) room);
     }
 
--- and is refused for memory alone
+-- the only fault with which it may be refused is `Memory`
 pub memory-only : {T : Type 0} (rings : List RingSetup) (setups : List WorkerSetup) (r : Result T WorldOpenFault) (f : WorldOpenFault) → r ≡ Err f → MayOpen rings setups
     → ((r ≡ Err fault.Ring) ↔ (¬ AreRings rings)) → ((r ≡ Err fault.ContextLength) ↔ (AreRings rings × ¬ HaveContexts setups))
     → ((r ≡ Err fault.Rings) ↔ (AreRings rings × HaveContexts setups × ¬ HaveRings (length rings) setups))
@@ -152,7 +152,7 @@ memory-only rings setups r fault.Workers is may ring context count worker chapte
 memory-only rings setups r fault.Chapter is may ring context count worker chapter = absurd ((chapter.0 is).4 may.rooms)
 memory-only rings setups r fault.Memory is may ring context count worker chapter = refl
 
--- each actor of the run is there
+-- each actor of the run exists
 pub none-unknown : (v : WorldValue) (actors : List Actor) (place : ℕ) → All (IsThere v) actors → IsFirstUnknown v actors place → ⊥
 none-unknown v [] place all unknown = unknown
 none-unknown v (actor ∷ actors) zero all unknown = unknown (All-head (IsThere v) actor actors all)
@@ -164,7 +164,7 @@ actors-there units n size worker rings v are opened =
     let one : 1 ≡ length v.machines = zip-long IsStarted (worker ∷ []) v.machines opened.machines_are in
     all-turns (IsThere v) units n (omega (arith, one)) (λ r low. omega (arith, low, long))
 
--- ---- the world that a run comes to
+-- ---- the last world of a run
 
 module _ (subject : Subject) (context : List ℕ) (size : ℕ) (last : WorldValue) (bounds : IsRingSize size) (x : RunsAlone subject context size last) where
   abbrev units : ℕ
@@ -212,7 +212,7 @@ module _ (subject : Subject) (context : List ℕ) (size : ℕ) (last : WorldValu
   new-count : new.worker_count ≡ old.worker_count
   new-count = (run (λ r. []) old new turns x.ran.0 (opening old opens) turns-there x.ran.2).count
 
-  -- behind the worker's turns its program has ended
+  -- after the worker's turns, its program has ended
   mid-finished : AllHaveFinished two.mid
   mid-finished w low =
       let zero-is : w ≡ 0 = omega (arith, low, mid-count, one) in

@@ -1,4 +1,4 @@
--- What a reader of a tape tells at its first record, in the words of the export.
+-- The result of a tape's reader at its first record, in the terms of the export.
 use Rattle.std.proofs.Common.{◌≡◌, ◌≢◌, ℕ, List, Some, Result, Err, inl, inr, ◌∙◌, sym, ap, subst, arith}
 use Rattle.rb_tape.specs.declared.fault.TapeKind.{TapeKind}
 use Rattle.rb_tape.specs.declared.fault.TapeKind.TheVariants.{Busy, Page, Padding, TooLong, DiscardedBytes, Truncated, Memory}
@@ -30,7 +30,7 @@ module _ (size position : ℕ) (bytes : List ℕ) where
       let reads : ReadsToEnd reading after (Some (Err fault)) = subst (λ a. ReadsToEnd reading after (Some a)) is reads in
       subst (λ r. IsToldAtEnd r fault.kind) opened reads.2
 
-  -- a reader of these bytes that tells a kind without a number tells that they show nothing yet
+  -- if a reader of these bytes reports a kind without a number, the bytes are undecided
   pub undecided : (reading after : Reading) (answer : Result Record TapeFault) (fault : TapeFault) (number : ℕ) → reading ≡ reading_from size position bytes → answer ≡ Err fault
       → number ≡ fault_number fault.kind → number ≡ 0 → ReadsToEnd reading after (Some answer) → IsUndecided size position bytes
   undecided reading after answer fault number opened is numbered none reads =
@@ -41,7 +41,7 @@ module _ (size position : ℕ) (bytes : List ℕ) where
   told_fault kind number is isnt (inl shown) = record { kind = kind; shown = shown; told_is = ap (λ n. record { offset = 0; span = 0; len = 0; discarded = 0; fault = n }) is }
   told_fault kind number is isnt (inr told) = no_number number (is ∙ ap fault_number told.2) isnt
 
-  -- one that tells a kind with a number tells the first fault that they show
+  -- if it reports a kind with a number, that is the first fault that they show
   pub fault_found : (reading after : Reading) (answer : Result Record TapeFault) (fault : TapeFault) (number : ℕ) → reading ≡ reading_from size position bytes → answer ≡ Err fault
       → number ≡ fault_number fault.kind → number ≢ 0 → ReadsToEnd reading after (Some answer)
       → FindsFault size position bytes (record { offset = 0; span = 0; len = 0; discarded = 0; fault = number })

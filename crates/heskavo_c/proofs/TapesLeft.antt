@@ -12,7 +12,7 @@ use Rattle.rb_world.specs.WorldValue.{WorldValue, world_of}
 use Rattle.rb_world.specs.TakenTapes.{taken_item, taken_items}
 use Rattle.heskavo_c.specs.Runs.{IsDrained, LeavesTapes, items_left, lengths_below, tape_left}
 
--- the tape of the first records grows by that of the next one
+-- the tape of the first records, extended by that of the next one
 pub next_record : (size : ℕ) (records : List Taken) (i : ℕ) (taken : Taken) → taken ≡ get_or records i taken → i < length records → (before was now : List ℕ)
     → was ≡ before ++ tape size (taken_items (take i records)) → now ≡ was ++ tape size (taken_items (taken ∷ [])) → now ≡ before ++ tape size (taken_items (take (i + 1) records))
 next_record size records i taken is inside before was now so_far added =
@@ -22,7 +22,7 @@ next_record size records i taken is inside before was now so_far added =
     ap (λ r. tape size (taken_items r)) one_more ∙ ap (tape size) (flat_map-append taken_item first (taken ∷ [])) ∙ tape-append size (taken_items first) (taken_items (taken ∷ [])) in
     added ∙ ap (λ b. b ++ tape size (taken_items (taken ∷ []))) so_far ∙ append_assoc before (tape size (taken_items first)) (tape size (taken_items (taken ∷ []))) ∙ ap (λ t. before ++ t) (sym text)
 
--- a record of a list that stands on a tape stands there by itself, somewhere
+-- a record of a list that forms a tape also forms a tape alone, from some position
 pub one_stands : (size position : ℕ) (records : List Taken) (i : ℕ) (taken : Taken) → taken ≡ get_or records i taken → i < length records → AreItemsFrom size position (taken_items records)
     → (at : ℕ) × AreItemsFrom size at (taken_items (taken ∷ []))
 one_stands size position records i taken is inside stand = subst (λ t. (at : ℕ) × AreItemsFrom size at (taken_items (t ∷ []))) (sym is) (at_place position records i inside stand)
@@ -39,7 +39,7 @@ one_stands size position records i taken is inside stand = subst (λ t. (at : �
     at_place position (answers.Empty ∷ records) (suc i) inside stand = at_place position records i (omega (arith, inside)) stand
 
 module _ (world : WorldValue) (size ring : ℕ) (was bytes old new : List ℕ) (taken : List Taken) (long : ℕ) where
-  -- the tape of one more ring
+  -- the tapes, extended by that of one more ring
   pub next_tape : LeavesTapes world size ring was old → taken ≡ ((world_of world).rings ring).taken → AreItemsFrom size 0 (items_left world ring) → bytes ≡ was ++ tape size (taken_items taken)
       → long ≡ length bytes - length was → new ≡ old ++ long ∷ [] → IsDrained world ring → LeavesTapes world size (ring + 1) bytes new
   next_tape left same stands added longer told drained =

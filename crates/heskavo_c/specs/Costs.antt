@@ -1,4 +1,4 @@
--- What is told of a program's cost (own; the cost is rb_cost's).
+-- What is reported of a program's cost (own; rb_cost defines the cost).
 use Rattle.std.specs.Prelude.{◌≡◌, ℕ, List, map}
 use Rattle.rb_cost.specs.declared.cost.Cost.{Cost}
 use Rattle.rb_cost.specs.declared.cost.RingCost.{RingCost}
@@ -8,11 +8,11 @@ use Rattle.heskavo_c.specs.declared.costing.ProgramCost.{ProgramCost}
 use Rattle.heskavo_c.specs.declared.costing.ProgramRingCost.{ProgramRingCost}
 use Rattle.heskavo_c.specs.Verdicts.{BytesAreAccepted}
 
--- what is told of a ring
+-- what is reported of the cost at a ring
 abbrev pub ring_row : RingCost → ProgramRingCost
 ring_row cost = record { records = cost.records; bytes = cost.bytes; held_records = cost.held_records; held_bytes = cost.held_bytes }
 
--- the bytes are those of an accepted program, and its cost is told, of each ring in its place
+-- the bytes encode an accepted program, and its cost is reported, with that of each ring in its place
 pub record TellsCost (bytes : List ℕ) (ctx_len ring_count : ℕ) (told : ProgramCost) (rows : List ProgramRingCost) : Type 0 where
   pub subject : Subject
   pub accepted : BytesAreAccepted bytes ctx_len ring_count subject

@@ -1,4 +1,4 @@
--- What each call does to an engine that a handle holds (own).
+-- The effect of each call on an engine that a handle holds (own).
 use Rattle.std.specs.Prelude.{ℕ, ◌≡◌, ◌≤◌, ◌<◌, ◌++◌, List, [], ◌∷◌, All, length, map}
 use Rattle.rb_history.specs.RingModel.{IsRingSize}
 use Rattle.rb_history.specs.declared.answers.Counts.{Counts}
@@ -21,7 +21,7 @@ use Rattle.heskavo_c.specs.declared.engine_answers.RingCounts.{RingCounts}
 
 -- ---- open
 
--- rings of these sizes may be opened, and programs with contexts of this length be verified for them
+-- rings of these sizes may be opened, and programs may be verified for them and for contexts of this length
 abbrev pub MayOpen : List ℕ → ℕ → Type 0
 MayOpen sizes ctx_len = AreBounds ctx_len (length sizes) × All IsRingSize sizes
 
@@ -35,7 +35,7 @@ opened_engine sizes ctx_len = record { rings = map fresh_ring sizes; programs = 
 abbrev pub MayLoad : EngineValue → Type 0
 MayLoad e = AreBounds e.ctx_len (length e.rings) × (length e.programs < 4294967295)
 
--- the bytes' program was accepted and added, with this number; nothing else changed
+-- the program with these bytes was accepted and added, with this number; nothing else changed
 pub record LoadsProgram (bytes : List ℕ) (number : ℕ) (old new : EngineValue) : Type 0 where
   pub subject : Subject
   pub accepted : BytesAreAccepted bytes old.ctx_len (length old.rings) subject
@@ -44,18 +44,18 @@ pub record LoadsProgram (bytes : List ℕ) (number : ℕ) (old new : EngineValue
 
 -- ---- run
 
--- there is a program of this number, and contexts have this length
+-- there is a program with this number, and contexts have this length
 abbrev pub MayRun : ℕ → ℕ → EngineValue → Type 0
 MayRun number len e = (number < length e.programs) × (len ≡ e.ctx_len)
 
--- the program was run over the rings, and ended with this value; only the rings changed
+-- the program was run over the rings, and returned this value; only the rings changed
 pub record RunsLoaded (number : ℕ) (context : List ℕ) (value : ℕ) (old new : EngineValue) : Type 0 where
   pub ran : RunsProgram number context value old new
   pub new_is : new ≡ record old { rings = new.rings }
 
 -- ---- put and take
 
--- there is a ring of this number, and the flags are known
+-- there is a ring with this number, and the flags are known
 abbrev pub MayPut : ℕ → ℕ → EngineValue → Type 0
 MayPut ring flags e = (ring < length e.rings) × (flags ≤ 3)
 
@@ -70,7 +70,8 @@ pub record FindsRingFull (ring n : ℕ) (old new : EngineValue) : Type 0 where
   pub full : AtRing ring (AfterTurn (HasNoRoom n)) old.rings new.rings
   pub new_is : new ≡ record old { rings = new.rings }
 
--- what a take found is this in numbers, and a record's bytes were put to the front of the buffer
+-- these numbers report the record that a take found; the bytes of a submitted one were written to the front of the
+-- buffer
 abbrev pub IsTakenAs : Taken → TakenRecord → (old new : List ℕ) → Type 0
 IsTakenAs (Event p w k bytes) r old new = (r ≡ record { position = p; len = length bytes; discarded = 0 }) × WritesFront bytes old new
 IsTakenAs (Skipped p n) r old new = (r ≡ record { position = p; len = n; discarded = 1 }) × (new ≡ old)
@@ -92,11 +93,11 @@ HasBusyRecord ring e = OfRing ring (λ v. HasBusyFrontByChapter v.ring) e.rings
 abbrev pub HasNoRecord : ℕ → EngineValue → Type 0
 HasNoRecord ring e = OfRing ring (λ v. AllTakenByChapter v.ring) e.rings
 
--- the next record of the ring waits, and has n bytes, more than a buffer of this length
+-- the next record of the ring is waiting, and has n bytes, which is more than a buffer of this length
 abbrev pub HasLongRecord : (ring n len : ℕ) → EngineValue → Type 0
 HasLongRecord ring n len e = OfRing ring (λ v. HasWaitingFront v n) e.rings × (len < n)
 
--- ---- answers
+-- ---- queries and counts
 
 abbrev pub HasRing : ℕ → EngineValue → Type 0
 HasRing ring e = ring < length e.rings

@@ -1,4 +1,4 @@
--- What is reported of a record's header in a ring of Linux (own; the header is rb_linux_ring's).
+-- What is reported of a record's header in a ring of Linux (own; rb_linux_ring defines the header).
 use Rattle.std.specs.Prelude.{ℕ, ◌≡◌, Bool, if◌then◌else◌}
 use Rattle.rb_linux_ring.specs.LinuxHeaders.{IsLinuxFault, ShowsLinuxFront}
 use Rattle.rb_linux_ring.specs.declared.linux_header.LinuxFault.{LinuxFault}
@@ -8,14 +8,14 @@ use Rattle.rb_linux_ring.specs.declared.header_window.LinuxWindow.{LinuxWindow}
 use Rattle.heskavo_c.specs.declared.linux_page.LinuxPage.{LinuxPage}
 use Rattle.heskavo_c.specs.declared.linux_record.LinuxRecord.{LinuxRecord}
 
--- the number is the header of a committed record, and this is reported of it
+-- the number is the header of a committed record, of which this is reported
 pub record FindsLinuxRecord (size position pages number : ℕ) (found : LinuxRecord) : Type 0 where
   pub discarded : Bool
   pub shown : ShowsLinuxFront size position pages number (Record found.len discarded found.next)
   pub discarded_is : found.discarded ≡ (if discarded then 1 else 0)
   pub no_fault : found.fault ≡ 0
 
--- what is wrong with a header, in the order in which it is looked for
+-- the number of a header's fault, in the order in which the faults are looked for
 abbrev pub linux_fault_number : LinuxFault → ℕ
 linux_fault_number BothBits = 1
 linux_fault_number OtherPage = 2
@@ -27,6 +27,6 @@ pub record FindsLinuxFault (size position pages number : ℕ) (found : LinuxReco
   pub shown : IsLinuxFault size position pages number fault
   pub found_is : found ≡ record { next = 0; len = 0; discarded = 0; fault = linux_fault_number fault }
 
--- what is reported of a page, as the window that it is
+-- what is reported of a page, as a window
 abbrev pub window_of_page : LinuxPage → LinuxWindow
 window_of_page page = record { first = page.first; max_len = page.max_len; end = page.end }

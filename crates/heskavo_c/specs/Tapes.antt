@@ -1,4 +1,4 @@
--- What is told of the bytes of a tape, and what is written of a record (own; the tape is rb_history's).
+-- What is reported of the bytes of a tape, and what is written for a record (own; rb_history defines the tape).
 use Rattle.std.specs.Prelude.{ℕ, ◌≡◌, ◌^◌, ◌<◌, List, if◌then◌else◌}
 use Rattle.rb_history.specs.Span.{span}
 use Rattle.rb_history.specs.TapeBytes.{Item, item_bytes, item_len, item_span, is_skip, IsItemAt}
@@ -11,7 +11,7 @@ use Rattle.heskavo_c.specs.Writing.{WritesFront}
 
 -- ---- a record that is read
 
--- the bytes begin with a record, whose payload stands behind its header, and this is told of it
+-- the bytes begin with a record, whose payload follows its header, and this is reported of it
 pub record FindsRecord (size position : ℕ) (bytes : List ℕ) (told : TapeRecord) : Type 0 where
   pub item : Item
   pub rest : List ℕ
@@ -22,7 +22,8 @@ pub record FindsRecord (size position : ℕ) (bytes : List ℕ) (told : TapeReco
   pub discarded_is : told.discarded ≡ (if is_skip item then 1 else 0)
   pub no_fault : told.fault ≡ 0
 
--- what is wrong with a record, in the order of the kinds; the end of the bytes and want of memory are no faults of a record
+-- the number of a record's fault, in the order of the kinds; the end of the bytes and a lack of memory are not faults
+-- of a record
 abbrev pub fault_number : TapeKind → ℕ
 fault_number Busy = 1
 fault_number Page = 2
@@ -32,25 +33,25 @@ fault_number DiscardedBytes = 5
 fault_number Truncated = 0
 fault_number Memory = 0
 
--- the bytes show this fault first, and nothing else is told
+-- the bytes show this fault first, and nothing else is reported
 pub record FindsFault (size position : ℕ) (bytes : List ℕ) (told : TapeRecord) : Type 0 where
   pub kind : TapeKind
   pub shown : ShowsFault size position bytes kind
   pub told_is : told ≡ record { offset = 0; span = 0; len = 0; discarded = 0; fault = fault_number kind }
 
--- a position is one of a ring of this size
+-- a ring may have this size, and a record this position
 abbrev pub IsTapePosition : ℕ → ℕ → Type 0
 IsTapePosition size position = IsRingSize size × IsStartPosition position
 
 -- ---- a record that is written
 
--- a record of so many bytes has a header, and has room in the ring
+-- a record of `len` bytes has a header, and fits in the ring
 pub record HasRoomAt (size position len : ℕ) : Type 0 where
   pub place : IsTapePosition size position
   pub has_header : len < 2 ^ 30
   pub has_room : span len < size
 
--- the record stands at the front of the buffer, may stand at its position, and as much was written as it takes
+-- the record is at the front of the buffer and is possible at its position, and its number of bytes was written
 pub record PutsItem (size position : ℕ) (item : Item) (old new : List ℕ) (written : ℕ) : Type 0 where
   pub stands : IsItemAt size position item
   pub bytes : WritesFront (item_bytes size item) old new

@@ -1,4 +1,5 @@
--- When the bytes of a program are accepted, and else what the verdict on it says: the first fault of the first layer that has one (own).
+-- When the bytes of a program are accepted, and otherwise its verdict: the first fault of the first layer that has one
+-- (own).
 use Rattle.std.specs.Prelude.{◌≡◌, ℕ, ◌≤◌, List}
 use Rattle.rb_insn.specs.declared.insn.Insn.{Insn}
 use Rattle.rb_insn.specs.Spelling.{SpellsAll}
@@ -19,11 +20,12 @@ use Rattle.heskavo_c.specs.declared.load.Refused.{Refused}
 use Rattle.heskavo_c.specs.declared.load.Refused.TheVariants.{Bytes, Shape, Rule}
 use Rattle.heskavo_c.specs.declared.verdict.Verdict.{Verdict}
 
--- a program may be verified for a context of so many bytes and so many rings
+-- a program may be verified for contexts of `ctx_len` bytes and `rings` rings
 abbrev pub AreBounds : ℕ → ℕ → Type 0
 AreBounds ctx_len rings = (ctx_len ≤ 65536) × (rings ≤ 16)
 
--- the bytes are the program's, which has 1 to 4096 units, is well shaped and has a valid annotation for a context of this length and so many rings
+-- the bytes encode the program, which has 1 to 4096 units, is well shaped, and has a valid annotation for contexts of
+-- this length and this number of rings
 pub record BytesAreAccepted (bytes : List ℕ) (ctx_len rings : ℕ) (subject : Subject) : Type 0 where
   pub spelled : SpellsAll subject.program bytes
   pub bounds : IsProgram subject.program
@@ -32,14 +34,15 @@ pub record BytesAreAccepted (bytes : List ℕ) (ctx_len rings : ℕ) (subject : 
   pub well_shaped : IsWellShaped subject.program
   pub valid : HasValid (limits_of subject) subject.program
 
--- the bytes are a program's, and this is the first fault of its shape
+-- the bytes encode a program, and this is the first fault of its shape
 pub record BytesHaveShapeFault (bytes : List ℕ) (fault : ShapeFault) : Type 0 where
   pub program : List Insn
   pub spelled : SpellsAll program bytes
   pub bounds : IsProgram program
   pub first : IsFirstShapeFault program fault
 
--- the bytes are a well-shaped program's, which no annotation fits for such a context and so many rings; and this rule is the first that it breaks
+-- The bytes encode a well-shaped program that has no valid annotation for contexts of this length and this number of
+-- rings. This rule is the first that it breaks.
 pub record BytesBreakRule (bytes : List ℕ) (ctx_len rings unit : ℕ) (rule : BrokenRule) : Type 0 where
   pub program : List Insn
   pub spelled : SpellsAll program bytes
@@ -48,7 +51,7 @@ pub record BytesBreakRule (bytes : List ℕ) (ctx_len rings unit : ℕ) (rule : 
   pub no_valid : HasNoValid (record { ctx_len = ctx_len; rings = rings }) program
   pub first : IsFirstBrokenRule (record { ctx_len = ctx_len; rings = rings }) program unit rule
 
--- the bytes are refused for this, for such a context and so many rings
+-- the bytes are refused for this reason, for contexts of this length and this number of rings
 abbrev pub BytesAreRefused : List ℕ → ℕ → ℕ → Refused → Type 0
 BytesAreRefused bytes ctx_len rings (Bytes fault) = IsFirstDecodeFault bytes fault
 BytesAreRefused bytes ctx_len rings (Shape fault) = BytesHaveShapeFault bytes fault
@@ -56,7 +59,8 @@ BytesAreRefused bytes ctx_len rings (Rule unit rule) = BytesBreakRule bytes ctx_
 
 -- ---- in numbers
 
--- what is wrong with bytes, in the order in which faults of one unit are told; out of memory is none of them
+-- the number of a fault of the bytes, in the order in which faults of the same unit are reported; a failed allocation
+-- is not one of them
 abbrev pub decode_number : DecodeKind → ℕ
 decode_number decode_faults.Length = 1
 decode_number decode_faults.TooLong = 2
@@ -67,7 +71,7 @@ decode_number decode_faults.UnusedField = 6
 decode_number decode_faults.HalfWide = 7
 decode_number decode_faults.Memory = 0
 
--- what is wrong with a shape
+-- the number of a fault of the shape
 abbrev pub shape_number : ShapeFaultKind → ℕ
 shape_number shape_faults.Backward = 1
 shape_number shape_faults.OutOfProgram = 2
@@ -82,7 +86,7 @@ verdict_of (Bytes fault) = record { layer = 1; number = decode_number fault.kind
 verdict_of (Shape fault) = record { layer = 2; number = shape_number fault.kind; unit = fault.unit }
 verdict_of (Rule unit rule) = record { layer = 3; number = rule_number rule; unit = unit }
 
--- the verdict is that on the bytes
+-- this is the verdict on the bytes
 pub record IsRightVerdict (bytes : List ℕ) (ctx_len rings : ℕ) (verdict : Verdict) : Type 0 where
   pub refused : Refused
   pub right : BytesAreRefused bytes ctx_len rings refused

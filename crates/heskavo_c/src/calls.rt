@@ -1,4 +1,4 @@
-//! Each export, once for what it is for.
+//! Tests that call each export, except those of engines.
 
 use crate::costing::{ProgramCost, ProgramRingCost, heskavo_cost};
 use crate::explaining::heskavo_explain;
@@ -13,7 +13,7 @@ use crate::version::heskavo_version;
 use rb_version::VERSION_NUMBER;
 use std::alloc::Global;
 
-// Reserves a record of eight bytes, and submits 42 where it was granted.
+// A program that reserves a record of eight bytes, and submits 42 if it was granted.
 pub(crate) const SUBMIT_42: [u8; 96] = [
     0x18, 0x51, 0, 0, 0, 0, 0, 0, 0, 0, 0, 0, 0, 0, 0, 0, 0xb7, 0x02, 0, 0, 0x08, 0, 0, 0, 0xb7,
     0x03, 0, 0, 0, 0, 0, 0, 0x85, 0, 0, 0, 0x83, 0, 0, 0, 0x15, 0, 0x04, 0, 0, 0, 0, 0, 0x7a, 0, 0,
@@ -21,7 +21,7 @@ pub(crate) const SUBMIT_42: [u8; 96] = [
     0x84, 0, 0, 0, 0xb7, 0, 0, 0, 0, 0, 0, 0, 0x95, 0, 0, 0, 0, 0, 0, 0,
 ];
 
-// An exit with a register that holds nothing.
+// A program that exits although r0 has no value.
 pub(crate) const EXIT: [u8; 8] = [0x95, 0, 0, 0, 0, 0, 0, 0];
 
 pub(crate) const NONE: Verdict = Verdict {
@@ -30,7 +30,7 @@ pub(crate) const NONE: Verdict = Verdict {
     unit: 0,
 };
 
-// The tape of what the program submits.
+// The tape of the record that `SUBMIT_42` submits.
 const TAPE: [u8; 16] = [8, 0, 0, 0, 0, 0, 0, 0, 42, 0, 0, 0, 0, 0, 0, 0];
 
 #[test]
@@ -38,7 +38,7 @@ fn the_version_is_told(rt: HostRuntime) {
     assert_eq!(rt; heskavo_version(), VERSION_NUMBER);
 }
 
-// What `heskavo_verify` answers, and the verdict's layer, number and unit.
+// Returns the status of `heskavo_verify`, and the verdict's layer, number and unit.
 fn verified(alloc: Global, program: &[u8]) -> (u32, [u32; 3]) {
     let mut verdict = NONE;
     let status = heskavo_verify(alloc, program, 16, 1, &mut verdict);
@@ -55,8 +55,8 @@ fn programs_are_accepted_and_refused(rt: HostRuntime) {
     );
 }
 
-// What `heskavo_linux_record` answers of a header at position 4,096 of a ring with 8,192 bytes of data: the status, the next position, and of the record its length,
-// whether it was discarded, and its fault.
+// Returns the status of `heskavo_linux_record` for a header at position 4,096 of a ring with 8,192 bytes of data, the
+// next position, and the record's length, whether it was discarded, and its fault.
 fn linux_record(header: u64) -> (u32, u64, [u32; 3]) {
     let mut found = LinuxRecord {
         next: 0,
@@ -124,7 +124,7 @@ fn the_cost_is_told(rt: HostRuntime) {
     );
 }
 
-// What `heskavo_explain` answers, and how many bytes it wants.
+// Returns the status of `heskavo_explain`, and the length of the explanation in bytes.
 fn explained(alloc: Global, program: &[u8], text: &mut [u8]) -> (u32, u64) {
     let mut wanted = 0;
     let status = heskavo_explain(alloc, program, 16, 1, text, &mut wanted);
@@ -145,8 +145,8 @@ fn programs_are_explained(rt: HostRuntime) {
     );
 }
 
-// What a program of eleven units more does behind `SUBMIT_42`'s submit: it reserves another record of eight bytes, discards it where it was granted, and
-// ends with 0.
+// The last eleven units of a program that begins like `SUBMIT_42`, up to its submit: they reserve another record of
+// eight bytes, discard it if it was granted, and return 0.
 const DISCARD_8: [u8; 88] = [
     0x18, 0x51, 0, 0, 0, 0, 0, 0, 0, 0, 0, 0, 0, 0, 0, 0, 0xb7, 0x02, 0, 0, 0x08, 0, 0, 0, 0xb7,
     0x03, 0, 0, 0, 0, 0, 0, 0x85, 0, 0, 0, 0x83, 0, 0, 0, 0x15, 0, 0x03, 0, 0, 0, 0, 0, 0xbf, 0x01,
@@ -154,7 +154,7 @@ const DISCARD_8: [u8; 88] = [
     0, 0, 0, 0x95, 0, 0, 0, 0, 0, 0, 0,
 ];
 
-// What it leaves: a record with 42, and one of as many bytes that was discarded.
+// The tape that this program leaves: a record with 42, and a discarded record of the same length.
 const BOTH_TAPES: [u8; 32] = [
     8, 0, 0, 0, 0, 0, 0, 0, 42, 0, 0, 0, 0, 0, 0, 0, 8, 0, 0, 0x40, 0, 0, 0, 0, 0, 0, 0, 0, 0, 0,
     0, 0,
@@ -179,8 +179,8 @@ fn a_program_runs(rt: HostRuntime) {
     assert_eq!(rt; (status, value, written, tape), (DONE, 0, [32], BOTH_TAPES));
 }
 
-// What `heskavo_tape_next` answers of bytes at this position: the status, and of the record its offset, span, length, whether it was discarded, and
-// its fault.
+// Returns the status of `heskavo_tape_next` for bytes at this position, the record's offset and span, and its length,
+// whether it was discarded, and its fault.
 fn next_of(bytes: &[u8], position: u64) -> (u32, [u64; 2], [u32; 3]) {
     let mut record = TapeRecord {
         offset: 0,

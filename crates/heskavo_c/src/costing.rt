@@ -1,4 +1,4 @@
-//! What a program can cost at most.
+//! The export that computes the maximal cost of a program.
 
 ghost use Rattle.std.specs.Prelude.{◌≡◌, ◌≢◌, ◌≤◌, ◌↔◌, length, map};
 ghost use Rattle.rb_cost.specs.Cost.{IsCost};
@@ -12,31 +12,42 @@ use rb_cost::{Cost, RingCost, cost_of};
 use rb_verifier::Verified;
 use std::alloc::Global;
 
-/// What a program can cost at most.
+/// The maximal cost of a program.
 #[repr(C)]
 #[derive(Clone, Copy)]
 pub struct ProgramCost {
-    /// The most instructions that a path executes.
+    /// The maximal number of instructions that a path executes.
     pub steps: u64,
-    /// The most helper calls that a path makes.
+    /// The maximal number of helper calls that a path makes.
     pub calls: u64,
 }
 
-/// What a program can ask of one ring at most, and hold of it.
+/// The maximal number of records and bytes that a program requests from one ring, and that it holds there.
 #[repr(C)]
 #[derive(Clone, Copy)]
 pub struct ProgramRingCost {
-    /// The most records for which a path asks, by reserve and by output.
+    /// The maximal number of records that a path requests, by reserve and by output.
     pub records: u64,
-    /// The most bytes of the ring that the records of a path take.
+    /// The maximal number of bytes of the ring that the records of a path occupy.
     pub bytes: u64,
-    /// The most reservations that are held before one instruction.
+    /// The maximal number of reservations that are held before an instruction.
     pub held_records: u64,
-    /// The most bytes of the ring that those take which are held before one instruction.
+    /// The maximal number of bytes of the ring that the reservations occupy which are held before an instruction.
     pub held_bytes: u64,
 }
 
-// What is told of a ring.
+// Returns the cost of the whole program, as it is passed to C.
+fn total_of(cost: &Cost) -> ProgramCost
+    ensures steps { result.steps ≡ cost.now.steps }
+    ensures calls { result.calls ≡ cost.now.calls }
+{
+    ProgramCost {
+        steps: cost.steps,
+        calls: cost.calls,
+    }
+}
+
+// Returns the cost at one ring, as it is passed to C.
 fn row_of(cost: RingCost) -> ProgramRingCost
     ensures { result ≡ ring_row cost }
 {
@@ -48,7 +59,7 @@ fn row_of(cost: RingCost) -> ProgramRingCost
     }
 }
 
-// Puts what is told of each ring into the caller's places.
+// Writes the cost at each ring to the caller's elements.
 fn put_rows(rows: &mut [ProgramRingCost], costs: &[RingCost])
     requires { length rows.old ≡ length costs.now }
     ensures { rows.new ≡ map ring_row costs.now }
@@ -59,9 +70,14 @@ fn put_rows(rows: &mut [ProgramRingCost], costs: &[RingCost])
 }
 
 #[unsafe(no_mangle)]
-/// Tells what a program can cost at most, over all paths by its jumps, for a context of `ctx_len` bytes and as many rings as `rings` has places: `DONE` with its
-/// steps and calls in `cost`, and what it asks of each ring and holds of it in `rings`. `REFUSED` with the verdict. `ARGUMENT` where the context is longer than
-/// 65,536 bytes or there are more than 16 rings. Nothing is run. Time and memory are linear in the program for each ring.
+/// Computes the maximal cost of a program, over all paths along its jumps, for a context of `ctx_len` bytes and as many
+/// rings as `rings` has elements. Nothing is run.
+///
+/// Returns `DONE` with the steps and calls in `cost`, and with what the program requests from each ring and holds of it
+/// in `rings`. Returns `REFUSED` with the verdict. Returns `ARGUMENT` if the context is longer than 65,536 bytes or
+/// there are more than 16 rings.
+///
+/// Takes time and memory linear in the program for each ring.
 pub extern "C" fn heskavo_cost(
     alloc: Global,
     program: &[u8],
@@ -93,9 +109,6 @@ pub extern "C" fn heskavo_cost(
         return MEMORY;
     };
     put_rows(rings, found.rings.as_slice());
-    *cost = ProgramCost {
-        steps: found.steps,
-        calls: found.calls,
-    };
+    *cost = total_of(&found);
     DONE
 }

@@ -1,4 +1,4 @@
-//! What an engine answers of its rings.
+//! The exports that return the numbers of an engine's rings.
 
 ghost use Rattle.std.specs.Prelude.{◌≡◌, ◌≢◌, ◌<◌, ◌↔◌, ◌⊎◌, length};
 ghost use Rattle.heskavo_c.specs.EngineHandles.{OfEngine};
@@ -10,13 +10,13 @@ use rb_engine::Engine;
 use rb_history::Counts;
 use std::alloc::Global;
 
-/// How many reservations a ring counts: `made` is the sum of the last four.
+/// The counts of a ring since it was opened. `made` is the sum of the last four.
 #[repr(C)]
 #[derive(Clone, Copy)]
 pub struct RingCounts {
     /// Records that were granted.
     pub made: u64,
-    /// Reservations and outputs that found no room; at most 2^64 - 1 are told.
+    /// Reservations and outputs that found no room; the count saturates at 2^64 - 1.
     pub refused: u64,
     /// Records that were submitted and taken.
     pub consumed: u64,
@@ -28,7 +28,7 @@ pub struct RingCounts {
     pub busy: u64,
 }
 
-// The counts, as they cross to C.
+// Returns the counts as they are passed to C.
 fn counts_for(counts: Counts) -> RingCounts
     ensures { result ≡ counts_of_ring counts }
 {
@@ -42,7 +42,7 @@ fn counts_for(counts: Counts) -> RingCounts
     }
 }
 
-// Answers a query.
+// Queries a ring.
 fn query_in(engine: &Engine, ring: u32, what: u64, answer: &mut u64) -> u32
     ensures answered { result ≡ DONE → AnswersQuery ring what answer.new engine.now }
     ensures argument { (result ≡ ARGUMENT) ↔ ¬ HasRing ring engine.now }
@@ -57,8 +57,10 @@ fn query_in(engine: &Engine, ring: u32, what: u64, answer: &mut u64) -> u32
 }
 
 #[unsafe(no_mangle)]
-/// Answers a query of a ring as `bpf_ringbuf_query` does: `DONE` with the answer, which is 0 for a query that is not known. `ARGUMENT` if the handle is closed,
-/// or there is no ring of this number.
+/// Queries a ring, as `bpf_ringbuf_query` does.
+///
+/// Returns `DONE` with the answer, which is 0 for an unknown query. Returns `ARGUMENT` if the handle is closed or no
+/// ring has this number.
 pub extern "C" fn heskavo_engine_query(
     alloc: Global,
     engine: &mut EngineHandle,
@@ -80,7 +82,7 @@ pub extern "C" fn heskavo_engine_query(
     status
 }
 
-// Tells the counts.
+// Reads the counts of a ring.
 fn counts_in(engine: &Engine, ring: u32, counts: &mut RingCounts) -> u32
     ensures counted { result ≡ DONE → CountsRing ring counts.new engine.now }
     ensures argument { (result ≡ ARGUMENT) ↔ ¬ HasRing ring engine.now }
@@ -95,7 +97,9 @@ fn counts_in(engine: &Engine, ring: u32, counts: &mut RingCounts) -> u32
 }
 
 #[unsafe(no_mangle)]
-/// Tells the six counts of all that a ring did since it was opened: `DONE`. `ARGUMENT` if the handle is closed, or there is no ring of this number.
+/// Reads the six totals of a ring since it was opened.
+///
+/// Returns `DONE`. Returns `ARGUMENT` if the handle is closed or no ring has this number.
 pub extern "C" fn heskavo_engine_counts(
     alloc: Global,
     engine: &mut EngineHandle,

@@ -1,4 +1,4 @@
-//! Each export of an engine, once for what it is for.
+//! Tests that call each export of an engine.
 
 use crate::calls::{EXIT, NONE, SUBMIT_42};
 use crate::engine_answers::{RingCounts, heskavo_engine_counts, heskavo_engine_query};
@@ -11,7 +11,7 @@ use crate::loose::Loose;
 use crate::status::{ARGUMENT, DONE, EMPTY, FULL, REFUSED, ROOM};
 use std::alloc::Global;
 
-// What a take answers: the status, and of the record its position, length and whether it was discarded.
+// Returns the status of a take, the record's position, and its length and whether it was discarded.
 fn taken(alloc: Global, engine: &mut EngineHandle, buffer: &mut [u8]) -> (u32, u64, [u32; 2]) {
     let mut record = TakenRecord {
         position: 0,

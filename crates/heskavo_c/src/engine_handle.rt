@@ -1,4 +1,4 @@
-//! What a C caller holds an engine by.
+//! The handle by which a C caller holds an engine.
 
 ghost use Rattle.std.specs.Prelude.{◌≡◌, IfNone, IfSome, None, Some};
 ghost use Rattle.std.specs.Coded.{coded_option};
@@ -13,10 +13,10 @@ use std::marker::Model;
 use std::mem::replace;
 use std::ptr::null_mut;
 
-/// A handle to an engine. It owns the engine, or is closed and null.
+/// A handle to an engine. It owns the engine, or it is closed and null.
 #[repr(C)]
 pub struct EngineHandle {
-    // The engine, without its type: a caller in C does not read it.
+    // The engine without its type, since a C caller does not read it.
     inside: *mut u8,
     pub ghost value: { MaybeEngine } by { coded_option engine_row.coded },
 }
@@ -45,7 +45,7 @@ impl EngineHandle {
         }
     }
 
-    /// Returns the engine, or `None` if the handle is closed.
+    /// Returns the engine of the handle, or `None` if the handle is closed.
     pub(crate) fn into_loose(self, alloc: Global) -> Option<Loose<Engine, Global>>
         ensures { MatchOption result (self.value ≡ None) (λ l. self.value ≡ Some l.value) }
     {
@@ -61,7 +61,7 @@ impl EngineHandle {
     }
 }
 
-/// Takes the engine out of its handle, which is closed then; `None` if it was closed before.
+/// Takes the engine out of its handle, which is closed afterwards. Returns `None` if the handle was closed before.
 pub(crate) fn take_out(handle: &mut EngineHandle, alloc: Global) -> Option<Box<Engine>>
     ensures none { IfNone result (handle.old.value ≡ None) }
     ensures held { IfSome result (λ engine. handle.old.value ≡ Some engine.value) }
@@ -73,7 +73,7 @@ pub(crate) fn take_out(handle: &mut EngineHandle, alloc: Global) -> Option<Box<E
     }
 }
 
-/// Puts an engine into a handle. What the handle held before is dropped.
+/// Puts an engine into a handle. If the handle held another engine, that one is dropped.
 pub(crate) fn put_back(handle: &mut EngineHandle, alloc: Global, engine: Box<Engine>)
     ensures held { handle.new.value ≡ Some engine.value }
 {

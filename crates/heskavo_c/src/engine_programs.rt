@@ -1,4 +1,4 @@
-//! Engines, and the programs that they run.
+//! The exports that open and close engines, and load and run their programs.
 
 ghost use Rattle.std.specs.Prelude.{◌≡◌, ◌≢◌, ◌≤◌, ◌↔◌, ◌⊎◌, IfErr, IfOk, IsErrOf, IsTrue, None, Some, length};
 ghost use Rattle.heskavo_c.specs.EngineHandles.{CallsEngine, OfEngine};
@@ -13,7 +13,8 @@ use rb_chapter_ring::OpenFault;
 use rb_engine::Engine;
 use std::alloc::Global;
 
-// An engine with rings of these sizes; the error is `ARGUMENT` if they or the length are out of bounds, else `MEMORY`.
+// Returns an engine with rings of these sizes. The error is `ARGUMENT` if the sizes or the length are out of bounds,
+// and `MEMORY` otherwise.
 fn opened(alloc: Global, sizes: &[u64], ctx_len: u32) -> Result<Box<Engine>, u32>
     ensures opened { IfOk result (λ engine. engine.value ≡ opened_engine sizes.now ctx_len) }
     ensures argument { IsErrOf result ARGUMENT ↔ ¬ MayOpen sizes.now ctx_len }
@@ -33,9 +34,13 @@ fn opened(alloc: Global, sizes: &[u64], ctx_len: u32) -> Result<Box<Engine>, u32
 }
 
 #[unsafe(no_mangle)]
-/// Opens an engine with a ring of each of these sizes, for programs with contexts of `ctx_len` bytes, and puts it into the handle: `DONE`. `ARGUMENT` if the
-/// handle is not closed, a size is no ring's, there are more than 16 rings, or `ctx_len` is above 65,536. It takes the memory of the rings, which goes
-/// back when the engine is closed. In time linear in that memory.
+/// Opens an engine with a ring of each of these sizes in bytes, for programs with contexts of `ctx_len` bytes, and puts
+/// it into the handle.
+///
+/// Returns `DONE`. Returns `ARGUMENT` if the handle is not closed, a size is not that of a ring, there are more than 16
+/// rings, or `ctx_len` is above 65,536.
+///
+/// Allocates the memory of the rings, which is freed when the engine is closed. Takes time linear in that memory.
 pub extern "C" fn heskavo_engine_open(
     alloc: Global,
     sizes: &[u64],
@@ -63,14 +68,14 @@ pub extern "C" fn heskavo_engine_open(
 }
 
 #[unsafe(no_mangle)]
-/// Closes an engine, and frees its memory. The handle may be closed before.
+/// Closes an engine and frees its memory. The handle may already be closed.
 pub extern "C" fn heskavo_engine_close(alloc: Global, engine: &mut EngineHandle)
     ensures closed { engine.new.value ≡ None }
 {
     let _closed = take_out(engine, alloc);
 }
 
-// Whether a program may be added to the engine.
+// Returns whether a program may be added to the engine.
 fn may_load(engine: &Engine) -> bool
     ensures { IsTrue result ↔ MayLoad engine.now }
 {
@@ -79,7 +84,7 @@ fn may_load(engine: &Engine) -> bool
         && engine.programs() < u32::MAX as usize
 }
 
-// Verifies a program, and adds it to the engine.
+// Verifies a program and adds it to the engine.
 fn load_into(
     alloc: Global,
     engine: &mut Engine,
@@ -116,8 +121,10 @@ fn load_into(
 }
 
 #[unsafe(no_mangle)]
-/// Verifies a program for the engine's contexts and rings, and adds it: `DONE` with its number, by which it is run. `REFUSED` with the verdict. `ARGUMENT` if the
-/// handle is closed, or the engine has 2^32 - 1 programs.
+/// Verifies a program for the engine's contexts and rings, and adds it to the engine.
+///
+/// Returns `DONE` with its number, by which it is run. Returns `REFUSED` with the verdict. Returns `ARGUMENT` if the
+/// handle is closed, or if the engine has 2^32 - 1 programs.
 pub extern "C" fn heskavo_engine_load(
     alloc: Global,
     engine: &mut EngineHandle,
@@ -160,9 +167,14 @@ fn run_in(engine: &mut Engine, number: u32, context: &[u8], value: &mut u64) -> 
 }
 
 #[unsafe(no_mangle)]
-/// Runs the program with this number to its end, over the rings as the calls before left them: `DONE` with what it ended with. `ARGUMENT` if the handle is
-/// closed, there is no program of this number, or the context has another length than the engine's. Where there is no memory for a record of more than 16
-/// bytes that the program asks for, it goes on as where the ring has no room; that is not `MEMORY`.
+/// Runs the program with this number to its end, over the rings as the previous calls left them.
+///
+/// Returns `DONE` with the program's result in `value`. Returns `ARGUMENT` if the handle is closed, no program has this
+/// number, or the context does not have the length of the engine's contexts. Returns `MEMORY` if nothing ran because
+/// memory for the run could not be allocated.
+///
+/// If memory for a record of more than 16 bytes that the program requests can't be allocated, the program continues as
+/// if the ring had no room. This does not return `MEMORY`.
 pub extern "C" fn heskavo_engine_run(
     alloc: Global,
     engine: &mut EngineHandle,

@@ -1,4 +1,4 @@
-//! The records of an engine's rings: put in by the caller, and taken.
+//! The exports that put records into an engine's rings and take records from them.
 
 ghost use Rattle.std.specs.Prelude.{ℕ, ◌≡◌, ◌≢◌, ◌<◌, ◌≤◌, ◌↔◌, ◌⊎◌, IfNone, IfSome, length};
 ghost use Rattle.rb_engine.specs.EngineCalls.{OfRing};
@@ -20,7 +20,7 @@ use std::alloc::Global;
 pub struct TakenRecord {
     /// Its position in the ring, in bytes since the ring was opened.
     pub position: u64,
-    /// How many bytes it has; of a discarded record, how many it had.
+    /// Its length in bytes; for a discarded record, the length that it had.
     pub len: u32,
     /// 1 if the record was discarded, else 0.
     pub discarded: u32,
@@ -45,8 +45,11 @@ fn put_in(engine: &mut Engine, ring: u32, bytes: &[u8], flags: u64) -> u32
 }
 
 #[unsafe(no_mangle)]
-/// Outputs a copy of the bytes to a ring as one record, as `bpf_ringbuf_output` does: `DONE`. `FULL` if the ring has no room, which its counts tell then.
-/// `ARGUMENT` if the handle is closed, there is no ring of this number, or a flag is not known. At `ARGUMENT` and `MEMORY` the engine is as it was.
+/// Outputs a copy of the bytes to a ring as one record, as `bpf_ringbuf_output` does.
+///
+/// Returns `DONE`. Returns `FULL` if the ring has no room, which it counts as a refusal, or if its chapter has none,
+/// even after a turn. Returns `ARGUMENT` if the handle is closed, no ring has this number, or a flag is unknown. If it
+/// returns `ARGUMENT` or `MEMORY`, the engine is unchanged.
 pub extern "C" fn heskavo_engine_put(
     alloc: Global,
     engine: &mut EngineHandle,
@@ -68,7 +71,7 @@ pub extern "C" fn heskavo_engine_put(
     status
 }
 
-// Whether the next record of the ring waits, and is longer than this: its length then.
+// Returns the length of the next record of the ring, if that record is waiting and longer than `len`.
 fn too_long(engine: &Engine, ring: u32, len: usize) -> Option<u32>
     requires ring { ring < length engine.now.rings }
     ensures long { IfSome result (λ n. HasLongRecord ring n len engine.now) }
@@ -85,7 +88,7 @@ fn too_long(engine: &Engine, ring: u32, len: usize) -> Option<u32>
     }
 }
 
-// Takes a record that is no longer than the buffer, if it waits.
+// Takes the next record, which is no longer than the buffer if it is waiting.
 fn take_fitting(engine: &mut Engine, ring: u32, buffer: &mut [u8], record: &mut TakenRecord) -> u32
     requires ring { ring < length engine.old.rings }
     requires fits { OfRing ring (λ v. (n : ℕ) → HasWaitingFront v n → n ≤ length buffer.old) engine.old.rings }
@@ -145,9 +148,11 @@ fn take_from(engine: &mut Engine, ring: u32, buffer: &mut [u8], record: &mut Tak
 }
 
 #[unsafe(no_mangle)]
-/// Takes the next record of a ring, and puts its bytes to the front of the buffer: `DONE` with the record. A discarded record has no bytes. `EMPTY` if the ring has
-/// no record, `MORE` if the next one is still busy, `ROOM` if it is longer than the buffer: its length is told then, and it is not taken. `ARGUMENT` if the
-/// handle is closed, or there is no ring of this number.
+/// Takes the next record of a ring, and copies its bytes to the front of the buffer. A discarded record has no bytes.
+///
+/// Returns `DONE` with the record. Returns `EMPTY` if the ring has no record, `MORE` if the next one is still busy, and
+/// `ROOM` if it is longer than the buffer: then `record` has its length, and it is not taken. Returns `ARGUMENT` if the
+/// handle is closed or no ring has this number.
 pub extern "C" fn heskavo_engine_take(
     alloc: Global,
     engine: &mut EngineHandle,

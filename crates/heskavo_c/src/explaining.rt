@@ -1,4 +1,4 @@
-//! The explanation of a program.
+//! The export that explains a program.
 
 ghost use Rattle.std.specs.Prelude.{◌≡◌, ◌≢◌, ◌<◌, ◌≤◌, ◌↔◌, ◌⊎◌, None, Some, length};
 ghost use Rattle.rb_explain.specs.declared.explanation.Reason.{Reason};
@@ -13,10 +13,15 @@ use rb_json::LineForm;
 use std::alloc::Global;
 
 #[unsafe(no_mangle)]
-/// Puts the explanation of a program to the front of `text`, and tells in `wanted` how many bytes it has: `DONE` of a program that is accepted for a
-/// context of `ctx_len` bytes and so many rings, each instruction behind what is known there, and then what the program can cost at most; `REFUSED` of one
-/// that is refused, the units around its first fault, and what mends it. `ROOM` where `text` is shorter than `wanted`. Time and memory are linear in the
-/// program, the time for each ring.
+/// Writes the explanation of a program to the front of `text`, and its length in bytes to `wanted`.
+///
+/// Returns `DONE` for a program that is accepted for contexts of `ctx_len` bytes and `rings` rings: the explanation is
+/// each instruction after the state that is known before it, followed by the most that the program can cost. Returns
+/// `REFUSED` for one that is refused: the explanation is the units around its first fault, and how to fix the program.
+/// Returns `ROOM` if `text` is shorter than `wanted`. Returns `ARGUMENT` if `ctx_len` is above 65,536 or `rings` above
+/// 16.
+///
+/// Takes memory linear in the program, and time linear in the program for each ring.
 pub extern "C" fn heskavo_explain(
     alloc: Global,
     program: &[u8],

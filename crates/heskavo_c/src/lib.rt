@@ -1,8 +1,14 @@
-//! The library for C, and for what calls C: verification, explanation, costs and runs of eBPF programs that write into BPF ring buffers, and the records of
-//! tapes. Each export is a thin call of a proved crate, and says that crate's clauses again; what no C caller can be held to is tested, and told by a
-//! status (`status.rt`). Nothing is kept between calls but the engines that a caller opens and holds; no lock is taken, and no thread is started. `include/heskavo_host.h` has the declarations.
+//! The library for C, and for languages that call C: verification, explanation, costs and runs of eBPF programs that
+//! write to BPF ring buffers; the records of tapes (files of records) and of rings of Linux; and engines, which keep
+//! rings and verified programs between calls.
 //!
-//! A program is its bytes, eight a unit, as RFC 9669 lays them out. Memory comes of the caller's `malloc`, and goes back before a call returns.
+//! Each export is a thin wrapper of a call of a proved crate, and states the clauses of that call again. A premise that
+//! a C caller can't be held to is tested, and a violation is returned as a status (`status.rt`). No state is kept
+//! between calls, except in the engines that a caller opens and holds. No call takes a lock or starts a thread.
+//! `include/heskavo_host.h` has the declarations.
+//!
+//! A program is its bytes, eight per unit, in the format of RFC 9669. Memory is allocated by the caller's `malloc`, and
+//! freed before a call returns, except that of an open engine.
 #![tactic(auto)]
 
 #[cfg(test)]

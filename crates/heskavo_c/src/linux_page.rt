@@ -1,4 +1,4 @@
-//! The headers of submitted records on a page of a ring of Linux.
+//! The export that reports the headers of submitted records on a page of a ring of Linux.
 
 ghost use Rattle.std.specs.Prelude.{◌≡◌, ◌≢◌, ◌<◌, ◌^◌, ◌↔◌, ◌⊎◌};
 ghost use Rattle.rb_linux_ring.specs.LinuxHeaders.{IsLinuxPlace};
@@ -8,10 +8,10 @@ ghost use Rattle.heskavo_c.specs.LinuxRecords.{window_of_page};
 use crate::status::{ARGUMENT, DONE};
 use rb_linux_ring::{is_linux_place, linux_window};
 
-/// The most pages that a ring may have before its data, and one more.
+/// One more than the maximal number of pages that a ring may have before its data.
 const PAGES_END: u32 = 1 << 31;
 
-/// The headers of submitted records from a position on, up to the end of its page.
+/// The headers of submitted records from a position to the end of its page.
 #[repr(C)]
 #[derive(Clone, Copy)]
 pub struct LinuxPage {
@@ -19,14 +19,18 @@ pub struct LinuxPage {
     pub first: u64,
     /// The position at which the page ends.
     pub end: u64,
-    /// The most bytes that a record can have there.
+    /// The maximal number of bytes of a record there.
     pub max_len: u32,
 }
 
 #[unsafe(no_mangle)]
-/// Reports the headers of submitted records from `position` on, up to the end of its page, of a ring of Linux with `size`
-/// bytes of data: `DONE`. `ARGUMENT` if the size is no power of two from 4,096 to 2^36, the position no multiple of 8 up
-/// to 2^61, or `pages_before_data` above 2^31 - 1. In constant time.
+/// Reports the headers of submitted records from `position` to the end of its page, in a ring of Linux with `size`
+/// bytes of data.
+///
+/// Returns `DONE`. Returns `ARGUMENT` if the size is not a power of two from 4,096 to 2^36, if the position is not a
+/// multiple of 8 or is above 2^61, or if `pages_before_data` is above 2^31 - 1.
+///
+/// Takes constant time.
 pub extern "C" fn heskavo_linux_page(
     size: u64,
     position: u64,

@@ -1,4 +1,4 @@
-//! The records of a ring buffer of Linux, by their headers.
+//! The export that reads the headers of records in a ring buffer of Linux.
 
 ghost use Rattle.std.specs.Prelude.{◌≡◌, ◌≢◌, ◌↔◌, ◌⊎◌, if◌then◌else◌};
 ghost use Rattle.rb_linux_ring.specs.LinuxHeaders.{IsLinuxPlace, ShowsLinuxFront};
@@ -8,7 +8,7 @@ ghost use Rattle.heskavo_c.specs.LinuxRecords.{FindsLinuxFault, FindsLinuxRecord
 use crate::status::{ARGUMENT, DONE, FAULT, MORE};
 use rb_linux_ring::{LinuxFault, LinuxFront, is_linux_place, read_header};
 
-/// What a record's header in a ring of Linux says, or what is wrong with it.
+/// The contents of a record's header in a ring of Linux, or its fault.
 #[repr(C)]
 #[derive(Clone, Copy)]
 pub struct LinuxRecord {
@@ -18,11 +18,11 @@ pub struct LinuxRecord {
     pub len: u32,
     /// 1 if the record was discarded, else 0.
     pub discarded: u32,
-    /// What is wrong with the header, counted from 1 in the order of `LinuxFault`; 0 if nothing is.
+    /// The fault of the header, counted from 1 in the order of `LinuxFault`; 0 if there is none.
     pub fault: u32,
 }
 
-// The number of what is wrong with a header.
+// Returns the number of a header's fault.
 fn number_of_fault(fault: LinuxFault) -> u32
     ensures { result ≡ linux_fault_number fault }
 {
@@ -33,7 +33,7 @@ fn number_of_fault(fault: LinuxFault) -> u32
     }
 }
 
-// What is reported of a fault.
+// Returns what is reported of a fault.
 fn of_fault(fault: LinuxFault) -> LinuxRecord
     ensures { result ≡ record { next = 0; len = 0; discarded = 0; fault = linux_fault_number fault } }
 {
@@ -45,7 +45,7 @@ fn of_fault(fault: LinuxFault) -> LinuxRecord
     }
 }
 
-// What is reported of a committed record.
+// Returns what is reported of a committed record.
 fn of_record(len: u32, discarded: bool, next: u64) -> LinuxRecord
     ensures { result ≡ record { next = next; len = len; discarded = (if discarded then 1 else 0); fault = 0 } }
 {
@@ -58,10 +58,16 @@ fn of_record(len: u32, discarded: bool, next: u64) -> LinuxRecord
 }
 
 #[unsafe(no_mangle)]
-/// Reads the header of the record at `position` of a ring of Linux with `size` bytes of data: `DONE` with a committed record, `MORE` for one that is still
-/// busy, or `FAULT` with its number. `header` is the header's eight bytes as one number, the length word in its lower half; `pages_before_data` is the number of
-/// pages in front of the data as the kernel counts them. `ARGUMENT` if the size is no power of two from 4,096 to 2^36, or the position no multiple of 8 up to
-/// 2^61. The call reads no memory of the ring. In constant time.
+/// Reads the header of the record at `position` of a ring of Linux with `size` bytes of data.
+///
+/// `header` is the header's eight bytes as one number, with the length word in its lower half. `pages_before_data` is
+/// the number of pages before the data, as the kernel counts them.
+///
+/// Returns `DONE` with a committed record, `MORE` if the record is busy, or `FAULT` with the fault's number. Returns
+/// `ARGUMENT` if the size is not a power of two from 4,096 to 2^36, or if the position is not a multiple of 8 or is
+/// above 2^61.
+///
+/// Reads no memory of the ring. Takes constant time.
 pub extern "C" fn heskavo_linux_record(
     header: u64,
     size: u64,

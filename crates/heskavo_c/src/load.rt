@@ -1,4 +1,4 @@
-//! A verified program from its bytes.
+//! Verifies a program that is given as its bytes.
 
 ghost use Rattle.std.specs.Prelude.{◌≡◌, ◌≢◌, ◌≤◌, ◌↔◌, IsTrue, IfErr, IfOk, IfSome};
 ghost use Rattle.heskavo_c.specs.Verdicts.{AreBounds, BytesAreAccepted, BytesAreRefused};
@@ -8,16 +8,16 @@ use rb_program::{DecodeFault, DecodeKind, ShapeFault, ShapeFaultKind, decode, sh
 use rb_verifier::{Refusal, Rule, Verified, verify};
 use std::alloc::Global;
 
-/// The longest context of a program, in bytes.
+/// The maximal length of a context, in bytes.
 const MAX_CONTEXT: u32 = 65_536;
 
-/// The most rings that a program may know.
+/// The maximal number of rings that a program may use.
 const MAX_RINGS: u32 = 16;
 
 /// Why a program is refused.
 #[derive(Clone, Copy)]
 pub enum Refused {
-    /// The bytes are no program.
+    /// The bytes are not a program.
     Bytes(DecodeFault),
     /// The program is not well shaped.
     Shape(ShapeFault),
@@ -25,14 +25,14 @@ pub enum Refused {
     Rule { unit: u32, rule: Rule },
 }
 
-// Whether a program may be verified for a context of so many bytes and so many rings.
+// Returns whether a program may be verified for contexts of `ctx_len` bytes and `rings` rings.
 pub(crate) fn are_bounds(ctx_len: u32, rings: u32) -> bool
     ensures { IsTrue result ↔ AreBounds ctx_len rings }
 {
     ctx_len <= MAX_CONTEXT && rings <= MAX_RINGS
 }
 
-// The fault of bytes as a refusal; out of memory is none.
+// Returns the refusal for a fault of the bytes, or `None` for a failed allocation.
 fn refused_for_bytes(fault: DecodeFault) -> Option<Refused>
     ensures { result ≡ refused_bytes fault }
 {
@@ -42,7 +42,7 @@ fn refused_for_bytes(fault: DecodeFault) -> Option<Refused>
     }
 }
 
-// The fault of a shape as a refusal; out of memory is none.
+// Returns the refusal for a fault of the shape, or `None` for a failed allocation.
 fn refused_for_shape(fault: ShapeFault) -> Option<Refused>
     ensures { result ≡ refused_shape fault }
 {
@@ -52,8 +52,10 @@ fn refused_for_shape(fault: ShapeFault) -> Option<Refused>
     }
 }
 
-/// The verified program of these bytes, for a context of so many bytes and so many rings. A refusal is the first fault of the first layer that has
-/// one: the bytes, the program's shape, its verification. `None` stands for out of memory, which may come in place of any other answer.
+/// Returns the verified program of these bytes, for contexts of `ctx_len` bytes and `rings` rings.
+///
+/// A refusal is the first fault of the first layer that has one: the bytes, the program's shape, its verification. The
+/// error is `None` if memory can't be allocated, which may take the place of any other result.
 pub(crate) fn load(
     alloc: Global,
     bytes: &[u8],

@@ -1,4 +1,4 @@
-//! A program's run over fresh rings that nobody else uses.
+//! Runs a program over fresh rings that nothing else uses.
 
 ghost use Rattle.std.specs.Prelude.{◌≡◌, ◌≢◌, ◌++◌, All, IfOk, IsTrue, OnOk, length, replicate};
 ghost use Rattle.rb_program.specs.Program.{unit_count};
@@ -9,10 +9,11 @@ use rb_verifier::Verified;
 use rb_world::{Actor, RingSetup, TurnDone, WorkerSetup, World, WorldFault, WorldOpenFault};
 use std::alloc::{AllocError, Global};
 
-/// The room of each ring's one chapter, in entries: a unit of a program logs three at most, and a program has 4,096 units at most.
+/// The room of each ring's only chapter, in entries: a unit of a program logs at most three, and a program has at most
+/// 4,096 units.
 const ROOM: u32 = 16_384;
 
-// Adds so many turns of an actor.
+// Appends `count` turns of an actor.
 fn push_turns(
     alloc: Global,
     turns: &mut Vec<Actor>,
@@ -26,7 +27,7 @@ fn push_turns(
     turns.extend_from_slice(block.as_slice())
 }
 
-// The turns of a run.
+// Returns the turns of a run.
 fn turns_of(alloc: Global, units: u32, rings: u32) -> Result<Vec<Actor>, AllocError>
     ensures { IfOk result (λ turns. turns.items ≡ turns_alone units rings) }
 {
@@ -38,14 +39,14 @@ fn turns_of(alloc: Global, units: u32, rings: u32) -> Result<Vec<Actor>, AllocEr
     Ok(turns)
 }
 
-// Whether no turn was refused memory.
+// Returns whether no turn failed for lack of memory.
 fn remembered(dones: &[TurnDone]) -> bool
     ensures { IsTrue result → All (λ done. done ≢ TurnDone.Memory) dones.now }
 {
     dones.iter().all(|done| *done != TurnDone::Memory)
 }
 
-// The rings, just opened, as many as the program was verified for.
+// Returns the parameters of `rings` fresh rings of this size.
 fn fresh_rings(alloc: Global, size: u64, rings: u32) -> Result<Vec<RingSetup>, AllocError>
     ensures { IfOk result (λ setups. setups.items ≡ replicate rings (record { size = size; start = 0; room = 16384 })) }
 {
@@ -59,7 +60,7 @@ fn fresh_rings(alloc: Global, size: u64, rings: u32) -> Result<Vec<RingSetup>, A
     Ok(setups)
 }
 
-// A world that may be opened is refused for memory alone.
+// Returns the error for a fault of a world that may be opened, which can only be a lack of memory.
 fn want_of_memory(fault: WorldOpenFault) -> AllocError
     requires memory { fault ≡ WorldOpenFault.Memory }
 {
@@ -69,8 +70,9 @@ fn want_of_memory(fault: WorldOpenFault) -> AllocError
     }
 }
 
-/// Runs the program over the context and fresh rings of this size, as many as it was verified for, and takes what it left in them. `AllocError` where there
-/// is no memory for the world, for its turns or for what is taken.
+/// Runs the program over the context and fresh rings of this size, as many as it was verified for, and takes what it
+/// left in them. Returns the world then, or `AllocError` if memory for the world, for its turns or for what is taken
+/// can't be allocated.
 pub(crate) fn run_alone<'p>(
     alloc: Global,
     program: &'p Verified,

@@ -1,4 +1,4 @@
-//! The tapes of what a run left.
+//! The tapes of the records that a run left.
 
 ghost use Rattle.std.specs.Prelude.{ℕ, ◌≡◌, ◌<◌, ◌++◌, ◌∷◌, [], IfOk, OnOk, length};
 ghost use Rattle.rb_history.specs.RingModel.{IsRingSize};
@@ -13,7 +13,7 @@ use rb_lend::Lent;
 use rb_world::World;
 use std::alloc::{AllocError, Global};
 
-// Adds a submitted record at the end of a tape.
+// Appends a submitted record to a tape.
 fn push_event(
     bytes: &mut Vec<u8>,
     size: u64,
@@ -32,7 +32,7 @@ fn push_event(
     Ok(())
 }
 
-// Adds a discarded record at the end of a tape.
+// Appends a discarded record to a tape.
 fn push_discarded(bytes: &mut Vec<u8>, size: u64, position: u64, len: u32) -> Result<(), AllocError>
     requires size { IsRingSize size }
     requires stands { IsItemAt size position (Skip position len) }
@@ -44,7 +44,7 @@ fn push_discarded(bytes: &mut Vec<u8>, size: u64, position: u64, len: u32) -> Re
     Ok(())
 }
 
-// Adds a record that was taken, and may stand on a tape, at the end of one.
+// Appends a record that was taken, and may be on a tape, to a tape. Appends nothing if the take found no record.
 fn push_record(bytes: &mut Vec<u8>, size: u64, taken: &Taken) -> Result<(), AllocError>
     requires size { IsRingSize size }
     requires stands { (position : ℕ) × AreItemsFrom size position (taken_items (taken.now ∷ [])) }
@@ -59,7 +59,7 @@ fn push_record(bytes: &mut Vec<u8>, size: u64, taken: &Taken) -> Result<(), Allo
     }
 }
 
-// Adds the tape of the records that were taken of a ring, each of which begins where the one before it ends.
+// Appends the tape of the records that were taken from a ring, each of which begins where the previous one ends.
 fn push_tape(bytes: &mut Vec<u8>, size: u64, records: &[Taken]) -> Result<(), AllocError>
     requires size { IsRingSize size }
     requires follow { AreItemsFrom size 0 (taken_items records.now) }
@@ -71,7 +71,8 @@ fn push_tape(bytes: &mut Vec<u8>, size: u64, records: &[Taken]) -> Result<(), Al
     Ok(())
 }
 
-/// The tapes of what was taken of the world's rings, of this size, one after the other, and how long each is.
+/// Returns the tapes of what was taken from the world's rings, which have this size, one after the other, and the
+/// length of each tape in bytes.
 pub(crate) fn tapes_of(
     alloc: Global,
     world: &World<'_>,

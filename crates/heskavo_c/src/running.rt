@@ -1,4 +1,4 @@
-//! A run of a program.
+//! The export that runs a program.
 
 ghost use Rattle.std.specs.Prelude.{◌≡◌, ◌≢◌, ◌<◌, ◌≤◌, ◌↔◌, IfOk, IsSome, IsTrue, Some, length};
 ghost use Rattle.rb_history.specs.RingModel.{IsRingSize};
@@ -18,7 +18,7 @@ use rb_verifier::Verified;
 use rb_world::World;
 use std::alloc::{AllocError, Global};
 
-// What a run left: what its program ended with, and the tapes of its rings with their lengths.
+// What a run left: the program's result, and the tapes of its rings with their lengths.
 #[derive(Drop)]
 struct Left {
     value: u64,
@@ -26,7 +26,7 @@ struct Left {
     lengths: Vec<u64>,
 }
 
-// Whether a program may run over a context of so many bytes and so many rings of this size.
+// Returns whether a program may run over a context of `context` bytes and `rings` rings of this size.
 fn may_run(context: usize, rings: usize, size: u64) -> bool
     ensures { IsTrue result ↔ MayRunOnce context rings size }
 {
@@ -36,7 +36,7 @@ fn may_run(context: usize, rings: usize, size: u64) -> bool
     is_size(size)
 }
 
-// What the program of the world's one worker ended with.
+// Returns the result of the program of the world's only worker.
 fn value_of(world: &World<'_>) -> u64
     requires there { 0 < length world.now.machines }
     requires ended { IsSome (result_of ((world_of world.now).workers 0)) }
@@ -48,7 +48,7 @@ fn value_of(world: &World<'_>) -> u64
     }
 }
 
-// Runs a program once, and takes what it left.
+// Runs a program once, and returns what it left.
 fn run_once(
     alloc: Global,
     program: &Verified,
@@ -70,11 +70,18 @@ fn run_once(
 }
 
 #[unsafe(no_mangle)]
-/// Verifies a program for `context` and as many rings as `written` has places, runs it once over fresh rings of `size` bytes, and puts what it left in
-/// each ring as a tape into `tapes`, the rings' tapes one after the other: `DONE` with what it ended with in `value`, and each tape's length in
-/// `written`. `REFUSED` with the verdict; `ROOM` where the tapes are longer than `tapes`, with their lengths told; `ARGUMENT` where the context is longer
-/// than 65,536 bytes, there are more than 16 rings, or no ring has this size. Where there is no memory for a record of more than 16 bytes that the program
-/// asks for, it goes on as where the ring has no room; that is not `MEMORY`. Time and memory are linear in the program and in what it writes.
+/// Verifies a program for `context` and as many rings as `written` has elements, runs it once over fresh rings of
+/// `size` bytes, and writes the records that it left in each ring as a tape to `tapes`, the rings' tapes one after the
+/// other.
+///
+/// Returns `DONE` with the program's result in `value` and the length of each tape in `written`. Returns `REFUSED` with
+/// the verdict. Returns `ROOM` if the tapes are longer than `tapes`, with their lengths in `written`. Returns
+/// `ARGUMENT` if the context is longer than 65,536 bytes, there are more than 16 rings, or no ring has this size.
+///
+/// If memory for a record of more than 16 bytes that the program requests can't be allocated, the program continues as
+/// if the ring had no room. This does not return `MEMORY`.
+///
+/// Takes time and memory linear in the program and in what it writes.
 pub extern "C" fn heskavo_run(
     alloc: Global,
     program: &[u8],

@@ -1,4 +1,4 @@
-//! The records of tapes.
+//! The exports that read and write the records of tapes.
 
 ghost use Rattle.std.specs.Prelude.{◌≡◌, ◌≢◌, ◌/◌, ◌%◌, ◌^◌, ◌<◌, ◌≤◌, ◌↔◌, ◌⊎◌, IsTrue, false, length, if◌then◌else◌};
 ghost use Rattle.rb_history.specs.Header.{header_bytes};
@@ -16,23 +16,23 @@ use crate::status::{ARGUMENT, DONE, FAULT, MORE, ROOM};
 use rb_history::{Header, is_size, is_start, page_of, span};
 use rb_tape::{Record, Tape, TapeKind};
 
-/// What the bytes of a tape begin with: a record, or what is wrong there.
+/// The record at the front of a tape's bytes, or its fault.
 #[repr(C)]
 #[derive(Clone, Copy)]
 pub struct TapeRecord {
-    /// Where the payload begins, in bytes from the front of the record.
+    /// The start of the payload, in bytes from the front of the record.
     pub offset: u64,
-    /// How many bytes the record takes: the next one begins behind them, and the position moves by as much.
+    /// The number of bytes of the record: the next one follows, at a position that is higher by this number.
     pub span: u64,
-    /// How many bytes the payload has; of a discarded record, how many it had.
+    /// The length of the payload in bytes; for a discarded record, the length that it had.
     pub len: u32,
-    /// 1 where the record was discarded, else 0. The bytes of a discarded one are zeros.
+    /// 1 if the record was discarded, else 0. The bytes of a discarded record are zeros.
     pub discarded: u32,
-    /// What is wrong with the record, counted from 1 in the order of `rb_tape`'s kinds; 0 where nothing is.
+    /// The fault of the record, counted from 1 in the order of `rb_tape`'s kinds; 0 if there is none.
     pub fault: u32,
 }
 
-// What is told of a record.
+// Returns a record as it is passed to C.
 fn told_of(found: Record<'_>) -> TapeRecord
     ensures { result ≡ record { offset = 8; span = spans.span found.entry.len; len = found.entry.len; discarded = (if found.entry.discarded then 1 else 0); fault = 0 } }
 {
@@ -45,7 +45,7 @@ fn told_of(found: Record<'_>) -> TapeRecord
     }
 }
 
-// The number of what is wrong with a record; 0 is nothing.
+// Returns the number of a record's fault; 0 if the kind is not a fault of a record.
 fn number_of_fault(kind: TapeKind) -> u32
     ensures { result ≡ fault_number kind }
 {
@@ -60,9 +60,15 @@ fn number_of_fault(kind: TapeKind) -> u32
 }
 
 #[unsafe(no_mangle)]
-/// What the bytes begin with, of a tape of a ring of `size` bytes, where the next record stands at `position`: `DONE` with the record, `MORE` where they
-/// show neither a whole record nor a fault, or `FAULT` with its number. `ARGUMENT` where no ring has this size, or the position is no multiple of 8 or
-/// above 2^61. Nothing is kept, so a reader goes on behind `span` bytes, at a position that is `span` higher. In time linear in the record.
+/// Reads the record at the front of `bytes`, from the tape of a ring of `size` bytes. The record's position is
+/// `position`.
+///
+/// Returns `DONE` with the record, `MORE` if the bytes show neither a whole record nor a fault, or `FAULT` with the
+/// fault's number. Returns `ARGUMENT` if no ring has this size, or if the position is not a multiple of 8 or is above
+/// 2^61.
+///
+/// Keeps nothing between calls: to continue, a reader advances both the bytes and the position by `span`. Takes time
+/// linear in the record.
 pub extern "C" fn heskavo_tape_next(
     bytes: &[u8],
     size: u64,
@@ -102,7 +108,7 @@ pub extern "C" fn heskavo_tape_next(
     }
 }
 
-// Whether a record of so many bytes has a header, and has room in a ring of this size, at this position.
+// Returns whether a record of `len` bytes has a header, and fits at this position in a ring of this size.
 fn has_room_at(size: u64, position: u64, len: u64) -> bool
     ensures { IsTrue result ↔ HasRoomAt size position len }
 {
@@ -112,7 +118,7 @@ fn has_room_at(size: u64, position: u64, len: u64) -> bool
     span(len as u32) < size
 }
 
-// The header of a taken record.
+// Returns the header of a taken record.
 fn header_at(size: u64, position: u64, len: u32, discard: bool) -> [u8; 8]
     requires size { IsRingSize size }
     requires len { len < 2 ^ 30 }
@@ -127,7 +133,8 @@ fn header_at(size: u64, position: u64, len: u32, discard: bool) -> [u8; 8]
     .to_bytes()
 }
 
-/// Puts a submitted record with these bytes to the front of the buffer, as it stands on the tape of a ring of `size` bytes at `position`.
+/// Writes a submitted record with these bytes to the front of the buffer, as on the tape of a ring of `size` bytes at
+/// `position`.
 pub(crate) fn put_event(payload: &[u8], size: u64, position: u64, tape: &mut [u8])
     requires size { IsRingSize size }
     requires len { length payload.now < 2 ^ 30 }
@@ -140,7 +147,7 @@ pub(crate) fn put_event(payload: &[u8], size: u64, position: u64, tape: &mut [u8
     put_parts(tape, &header, payload, zeros);
 }
 
-/// Puts a discarded record of `len` bytes to the front of the buffer, likewise.
+/// Writes a discarded record of `len` bytes to the front of the buffer, in the same way.
 pub(crate) fn put_discarded(len: u32, size: u64, position: u64, tape: &mut [u8])
     requires size { IsRingSize size }
     requires len { len < 2 ^ 30 }
@@ -152,9 +159,13 @@ pub(crate) fn put_discarded(len: u32, size: u64, position: u64, tape: &mut [u8])
 }
 
 #[unsafe(no_mangle)]
-/// Puts a submitted record with these bytes to the front of `tape`, as it stands on the tape of a ring of `size` bytes at `position`, and tells how many
-/// bytes it takes. `ROOM` where `tape` is shorter; `written` tells then how many are wanted. `ARGUMENT` where no ring has this size, the position is no
-/// multiple of 8 or above 2^61, or the record has no room in the ring. In time linear in the record.
+/// Writes a submitted record with this payload to the front of `tape`, as on the tape of a ring of `size` bytes at
+/// `position`, and its number of bytes to `written`.
+///
+/// Returns `DONE`, or `ROOM` if `tape` is shorter than that, which is still written to `written`. Returns `ARGUMENT` if
+/// no ring has this size, the position is not a multiple of 8 or is above 2^61, or the record does not fit in the ring.
+///
+/// Takes time linear in the record.
 pub extern "C" fn heskavo_tape_put(
     payload: &[u8],
     size: u64,
@@ -181,7 +192,8 @@ pub extern "C" fn heskavo_tape_put(
 }
 
 #[unsafe(no_mangle)]
-/// Puts a discarded record of `len` bytes to the front of `tape`, with zeros in the place of its bytes, and answers as `heskavo_tape_put` does.
+/// Writes a discarded record of `len` bytes to the front of `tape`, with zeros for its bytes, and its number of bytes
+/// to `written`. Returns the same statuses as `heskavo_tape_put`.
 pub extern "C" fn heskavo_tape_put_discarded(
     len: u32,
     size: u64,

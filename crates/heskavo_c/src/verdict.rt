@@ -1,4 +1,4 @@
-//! Why a program is refused, in numbers.
+//! Verdicts: why a program is refused, as numbers.
 
 ghost use Rattle.std.specs.Prelude.{◌≡◌, ◌≢◌};
 ghost use Rattle.heskavo_c.specs.Verdicts.{decode_number, shape_number, verdict_of};
@@ -6,13 +6,13 @@ ghost use Rattle.heskavo_c.specs.Verdicts.{decode_number, shape_number, verdict_
 use crate::load::Refused;
 use rb_program::{DecodeKind, ShapeFaultKind};
 
-/// The layer of a fault of the bytes: they are no program.
+/// The layer of the bytes: they are not a program.
 pub const BYTES: u32 = 1;
 
-/// The layer of a fault of the program's shape: of its jumps, or of its end.
+/// The layer of the program's shape: its jumps and its end.
 pub const SHAPE: u32 = 2;
 
-/// The layer of a rule of verification.
+/// The layer of the rules of verification.
 pub const RULES: u32 = 3;
 
 /// Why a program is refused: the first fault of the first layer that has one.
@@ -21,13 +21,14 @@ pub const RULES: u32 = 3;
 pub struct Verdict {
     /// The layer: `BYTES`, `SHAPE` or `RULES`.
     pub layer: u32,
-    /// The number of what is wrong in that layer, counted from 1 in the order in which faults of one unit are told; of a rule its number.
+    /// The number of the fault in that layer, counted from 1 in the order in which faults of the same unit are
+    /// reported. For a rule, this is the rule's number.
     pub number: u32,
-    /// The unit of eight bytes at which it is wrong, counted from 0.
+    /// The unit of eight bytes that has the fault, counted from 0.
     pub unit: u32,
 }
 
-// The number of what is wrong with bytes; 0 is none of them.
+// Returns the number of a fault of the bytes; 0 for a failed allocation, which is not one.
 fn number_of_decode(kind: DecodeKind) -> u32
     ensures { result ≡ decode_number kind }
 {
@@ -43,7 +44,7 @@ fn number_of_decode(kind: DecodeKind) -> u32
     }
 }
 
-// The number of what is wrong with a shape; 0 is none of them.
+// Returns the number of a fault of the shape; 0 for a failed allocation, which is not one.
 fn number_of_shape(kind: ShapeFaultKind) -> u32
     ensures { result ≡ shape_number kind }
 {
@@ -57,7 +58,7 @@ fn number_of_shape(kind: ShapeFaultKind) -> u32
     }
 }
 
-// Why a program is refused, in numbers.
+// Returns the verdict of a refusal.
 pub(crate) fn verdict_on(refused: Refused) -> Verdict
     ensures { result ≡ verdict_of refused }
 {

@@ -1,4 +1,4 @@
-//! The verdict on a program.
+//! The export that verifies a program.
 
 ghost use Rattle.std.specs.Prelude.{◌≡◌, ◌≢◌, ◌≤◌, ◌↔◌, ◌⊎◌};
 ghost use Rattle.rb_verifier.specs.Subject.{Subject};
@@ -10,8 +10,12 @@ use crate::verdict::{Verdict, verdict_on};
 use std::alloc::Global;
 
 #[unsafe(no_mangle)]
-/// Whether a program would be accepted for a context of `ctx_len` bytes and so many rings: `DONE`, or `REFUSED` with the verdict. `ARGUMENT` where the
-/// context is longer than 65,536 bytes or there are more than 16 rings. Time and memory are linear in the program.
+/// Verifies a program for contexts of `ctx_len` bytes and `rings` rings.
+///
+/// Returns `DONE` if the program is accepted, and `REFUSED` with the verdict if not. Returns `ARGUMENT` if `ctx_len` is
+/// above 65,536 or `rings` above 16.
+///
+/// Takes time and memory linear in the program.
 pub extern "C" fn heskavo_verify(
     alloc: Global,
     program: &[u8],

@@ -1,4 +1,4 @@
--- The record that a take takes is the one that waits at the front.
+-- The record that a take returns is the one that waits at the front.
 use Rattle.std.proofs.Common.{◌≡◌, ℕ, zero, suc, ◌+◌, ◌<◌, ◌≤◌, false, List, [], ◌∷◌, ◌++◌, length, get_or, refl, sym, ap, ◌∙◌, subst, arith}
 use Rattle.std.specs.List.{Contains}
 use Rattle.std.proofs.lemmas.Bool.{false_from_ne_true}
@@ -24,13 +24,13 @@ use Rattle.rb_chapter_ring.proofs.Logging.{ends}
 use Rattle.rb_chapter_ring.proofs.Stands.{goes-on}
 use Rattle.rb_engine.specs.RingCalls.{HasWaitingFront, WasFront}
 
--- each record of a row begins where the row does, or later
+-- each record of a row begins at the row's start or later
 from-row : (c : ℕ) (ss : List Shown) (p i : ℕ) (d : Shown) → InRow c ss p → i < length ss → c ≤ (get_or ss i d).pos
 from-row c [] p i d row low = absurd (omega arith)
 from-row c (s ∷ ss) p zero d row low = omega (arith, row.0)
 from-row c (s ∷ ss) p (suc i) d row low = omega (arith, from-row (c + span s.len) ss p i d row.1 (omega arith))
 
--- only the first record of a row begins where the row does
+-- only the first record of a row begins at the row's start
 first-alone : (c : ℕ) (ss : List Shown) (p i : ℕ) (d : Shown) → InRow c ss p → i < length ss → (get_or ss i d).pos ≡ c → get_or ss i d ≡ get_or ss 0 d
 first-alone c [] p i d row low at = absurd (omega arith)
 first-alone c (s ∷ ss) p zero d row low at = refl

@@ -1,4 +1,4 @@
--- What each call leaves of the records that an engine's rings keep.
+-- The records that an engine's rings keep after each call.
 use Rattle.std.proofs.Common.{◌≡◌, ◌≢◌, ℕ, zero, suc, ◌⊎◌, inl, inr, ℤ, pos, negsuc, Bool, true, false, List, [], ◌∷◌, length, set, get_or, Option, Some, None, refl, sym, ap, ◌∙◌, subst}
 use Rattle.std.specs.Prelude.{slice_get, IfSome}
 use Rattle.std.proofs.lemmas.Bool.{cases_eq}
@@ -16,7 +16,7 @@ use Rattle.rb_engine.specs.RingCalls.{Grants, HasNoRoom, IsNotSent, IsRefused, O
 use Rattle.rb_engine.specs.RingTurns.{AfterTurn, MayTurn}
 use Rattle.rb_engine.specs.declared.engine_record.EngineRecord.{EngineRecord}
 
--- ---- one ring of many
+-- ---- one of several rings
 
 here : {A : Type 0} (xs : List A) (i : ℕ) (x y : A) → slice_get xs i ≡ Some x → slice_get (set xs i y) i ≡ Some y
 here [] i x y at = absurd (cc)
@@ -39,24 +39,24 @@ none-some o e = cc
 true-false : true ≡ false → ⊥
 true-false e = cc
 
--- ---- what a call leaves of one ring's hands
+-- ---- the hands of one ring after a call
 
 freed-hand : (hands : Hands) (h : ℕ) → get_or (set hands h None) h None ≡ None
 freed-hand [] h = refl
 freed-hand (x ∷ hands) zero = refl
 freed-hand (x ∷ hands) (suc h) = freed-hand hands h
 
--- a hand that was freed has nothing
+-- a freed hand is empty
 freed : (book : HandBook) (h : ℕ) → hand_at (with_hand book 0 h None) 0 h ≡ None
 freed [] h = refl
 freed (hands ∷ book) h = freed-hand hands h
 
--- a change of one hand leaves the others
+-- a change of one hand does not change the others
 other-hand : (book : HandBook) (h g : ℕ) (x : Option OutRecord) → g ≢ h → hand_at (with_hand book 0 h x) 0 g ≡ hand_at book 0 g
 other-hand [] h g x apart = refl
 other-hand (hands ∷ book) h g x apart = get_or-set_other hands h g x None apart
 
--- each such hand that is out stays out
+-- each such hand that has a record keeps it
 abbrev StaysOut : (ℕ → Type 0) → HandRing → HandRing → Type 0
 StaysOut At b a = (h : ℕ) (o : OutRecord) → At h → hand_at b.hands 0 h ≡ Some o → hand_at a.hands 0 h ≡ Some o
 
@@ -102,7 +102,7 @@ ended-hands end.Discard r b a own did = did.freed ∙ ap (λ w. with_hand b.hand
 ended : (how : RecordEnd) (r : HandGranted) (b a : HandRing) → r.granted.worker ≡ 0 → EndsFromHand how r.hand r.granted b a → StaysOut (ButAt r.hand) b a
 ended how r b a own did h o apart out = ap (λ book. hand_at book 0 h) (ended-hands how r b a own did) ∙ other-hand b.hands r.hand h None apart ∙ out
 
--- the hand of a record of the engine's, by the one worker that it is
+-- the hand of one of the engine's records, which belongs to the ring's only worker
 own-hand : (v : HandRing) (r : HandGranted) → r.granted.worker ≡ 0 → HasInHand v r.hand r.granted → hand_at v.hands 0 r.hand ≡ Some (out_record r.granted.pos r.granted.serial (length r.granted.bytes))
 own-hand v r own out = subst (λ w. hand_at v.hands w r.hand ≡ Some (out_record r.granted.pos r.granted.serial (length r.granted.bytes))) own out
 

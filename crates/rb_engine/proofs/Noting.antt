@@ -1,4 +1,4 @@
--- Calls are noted in the trace with their answers.
+-- Calls are appended to the trace with their answers.
 use Rattle.std.proofs.Common.{◌≡◌, ◌≢◌, ℕ, ◌-◌, ◌<◌, ℤ, pos, negsuc, List, [], ◌∷◌, ◌++◌, All, Bool, true, false, get_or, length, refl, sym, ap, ◌∙◌, subst, arith, nat_lt, inl, inr}
 use Rattle.std.proofs.lemmas.Bool.{cases_order, lt-ltb, ltb-true}
 use Rattle.rb_chapter_ring.specs.HandRing.{HandRing}
@@ -20,7 +20,7 @@ noted call old mid new rest did room logged =
       did = subst (λ rings. CallsRings call old.rings rings) (sym (ap (λ (h : RunRings). h.rings) logged)) did;
     }
 
--- there are as many rings as before
+-- the number of rings does not change
 pub same-numbers : (old mid new : RunRings) (done : Done) → length mid.rings ≡ length old.rings → new ≡ with_call mid done → has_number new ≡ has_number old
 same-numbers old mid new done count logged = ap (λ n. λ ring. nat_lt ring n) (ap (λ (h : RunRings). length h.rings) logged ∙ count)
 
@@ -60,11 +60,11 @@ none-not-again = apart (pos 0) (negsuc 10) (λ n. absurd (omega (arith, n)))
 pub none-not-bad : pos 0 ≢ negsuc 21
 none-not-bad = apart (pos 0) (negsuc 21) (λ n. absurd (omega (arith, n)))
 
--- what holds of all holds of each
+-- a property of all elements is one of each element
 pub all-at : {A : Type 0} (P : A → Type 0) (xs : List A) (i : ℕ) (x : A) → All P xs → i < length xs → x ≡ get_or xs i x → P x
 all-at P xs i x all below here = subst P (sym here) (all i x below)
 
--- numbers with the same numbers below them are the same
+-- numbers are equal if the same numbers are below them
 pub same-count : (a b : ℕ) → ◌≡◌ {A = ℕ → Bool} (λ ring. nat_lt ring a) (λ ring. nat_lt ring b) → a ≡ b
 same-count a b same = elim (cases_order a b) [
   | inl e ↦ e
@@ -72,7 +72,7 @@ same-count a b same = elim (cases_order a b) [
   | inr (inr above) ↦ let u : nat_lt b b ≡ true = sym (ap (λ f. f b) same) ∙ lt-ltb b a above in let l : b < b = ltb-true b b u in absurd (omega (arith, l))
 ]
 
--- the calls of the helpers are calls of the rings
+-- the calls to the helpers are calls at the rings
 pub rings-led : (start now : RunRings) (calls : List (AnsweredCall EngineRecord)) → Leads start calls now → RingsLead start.rings calls now.rings
 rings-led start now [] led = ap (λ (h : RunRings). h.rings) led
 rings-led start now (call ∷ more) led = (led.0.rings, led.1.did, rings-led led.0 now more led.2)

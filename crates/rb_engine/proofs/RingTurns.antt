@@ -10,7 +10,7 @@ use Rattle.rb_engine.specs.RingCalls.{Grants, HasNoRoom, IsNotSent, IsRefused, O
 use Rattle.rb_engine.specs.RingTurns.{AfterTurn, MayTurn}
 use Rattle.rb_engine.specs.declared.engine_ring.NotSent.{NotSent}
 
--- where the chapter was handed out it was turned, and else nothing changed
+-- if the chapter was handed out, it was turned; otherwise nothing changed
 pub turned-by : (answer : Result Chapter Chapter) (old new : HandRing) → IfOk answer (λ out. HandsOut old.ring new.ring out) → OnErr answer (new ≡ old) → new.hands ≡ old.hands → MayTurn old new
 turned-by (Ok out) old new handed same hands = inr (out, handed, hands)
 turned-by (Err back) old new handed same hands = inl same

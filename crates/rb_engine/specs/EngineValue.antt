@@ -1,4 +1,4 @@
--- What contracts see of an engine, and what a run of one of its programs does (own).
+-- The view that contracts have of an engine, and the effect of a run of one of its programs (own).
 use Rattle.std.specs.Prelude.{ℕ, ◌≡◌, ◌≢◌, List, Err, Ok, Result, Some, slice_get}
 use Rattle.rb_chapter_ring.specs.HandRing.{HandRing}
 use Rattle.rb_interp.specs.AnsweredCalls.{AnsweredCall}
@@ -19,12 +19,13 @@ pub record EngineValue : Type 0 where
 abbrev pub record_bytes : EngineRecord → List ℕ
 record_bytes r = r.reservation.granted.bytes
 
--- with these bytes written into it
+-- the record with these bytes written into it
 abbrev pub with_record_bytes : EngineRecord → List ℕ → EngineRecord
 with_record_bytes r bytes = record r { reservation = record r.reservation { granted = record r.reservation.granted { bytes = in_place_of r.reservation.granted.bytes bytes } } }
 
--- A program was run over these rings, as the calls before left them: it made these calls, with these answers; they are those of the program's meaning, which
--- gives this result; no record was handed back; and they lead from the one state of the rings to the other
+-- A program was run over these rings, as the previous calls left them. It made these calls, with these answers. They
+-- are those of the program's semantics, which has this result. No record was handed back, and the calls lead from the
+-- first state of the rings to the second.
 pub record RunsOver (program : Subject) (context : List ℕ) (result : Result ℕ RunFault) (old new : List HandRing) : Type 0 where
   pub calls : List (AnsweredCall EngineRecord)
   pub length_is : TellsLength program context result
@@ -32,7 +33,7 @@ pub record RunsOver (program : Subject) (context : List ℕ) (result : Result �
   pub never_stray : result ≢ Err Stray
   pub led : RingsLead old calls new
 
--- the program with this number was run over the engine's rings, and ended with this value
+-- the program with this number was run over the engine's rings, and returned this value
 pub record RunsProgram (number : ℕ) (context : List ℕ) (value : ℕ) (old new : EngineValue) : Type 0 where
   pub program : Subject
   pub program_is : slice_get old.programs number ≡ Some program

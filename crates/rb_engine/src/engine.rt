@@ -1,4 +1,4 @@
-//! The engine.
+//! The engine: rings and verified programs of one thread.
 
 ghost use Rattle.std.specs.Prelude.{ℕ, ◌≡◌, ◌≢◌, ◌↔◌, ◌⊎◌, ◌+◌, ◌<◌, ◌≤◌, ◌++◌, ◌∷◌, [], All, IfErr, IfNone, IfOk, IfSome, IsErrOf, IsTrue, List, OnErr, OnOk, length, map, slice_index_or};
 ghost use Rattle.rb_history.specs.RingModel.{IsRingSize};
@@ -22,21 +22,23 @@ use std::alloc::{AllocError, Global};
 use std::marker::Model;
 use thiserror::Error;
 
-/// Why a run gave no result.
+/// Why `Engine::run` did not run a program.
 #[derive(Clone, Copy, Debug, Error, PartialEq, Eq)]
 pub enum NoRun {
-    /// The context has another length than the engine's programs have. Nothing ran.
+    /// The context does not have the length of the engine's contexts. Nothing ran.
     #[error("context of another length")]
     ContextLength,
-    /// There is no memory for the trace of the run's calls. Nothing ran.
+    /// Memory for the trace of the run's calls could not be allocated. Nothing ran.
     #[error("out of memory")]
     Memory,
 }
 
-/// Rings and verified programs that stay, for one thread: each run, and each record that is put or taken, goes on where the one before it ended.
+/// Rings and verified programs for one thread, which persist between calls: each run, and each record that is put or
+/// taken, continues with the rings as the previous call left them.
 ///
-/// An engine allocates its rings when it is opened, and a program's memory when it is added. After that only records of more than 16 bytes are allocated,
-/// and each is freed when it is taken.
+/// The rings are allocated when the engine is opened, and a program's place when it is added. After that, the engine
+/// allocates only the trace of a run's calls, if the program has more CALL instructions than those that ran before, and
+/// the records of more than 16 bytes, each of which it owns until the record is discarded or taken.
 #[derive(Drop)]
 pub struct Engine {
     rings: EngineRings,
@@ -63,9 +65,11 @@ impl Model for Engine {
 }
 
 impl Engine {
-    /// Returns an engine with a ring of each of these sizes, without records and programs, whose programs run over contexts of `ctx_len` bytes.
+    /// Returns an engine with a ring of each of these sizes in bytes. The rings have no records, there are no programs,
+    /// and programs will run over contexts of `ctx_len` bytes.
     ///
-    /// `Size` if one of the sizes is no ring's; else the only refusal is `Memory`.
+    /// Returns `Size` if one of the sizes is not that of a ring (a power of two from 4,096 to 67,108,864). Otherwise,
+    /// the only error is `Memory`.
     pub fn open(alloc: Global, sizes: &[u64], ctx_len: u32) -> Result<Engine, OpenFault>
         requires rings { length sizes.now ≤ 16 }
         ensures rings { IfOk result (λ e. e.rings ≡ map fresh_ring sizes.now) }
@@ -101,15 +105,17 @@ impl Engine {
         self.programs.len()
     }
 
-    /// Returns the length in bytes of every context.
+    /// Returns the length of every context, in bytes.
     pub fn ctx_len(&self) -> u32
         ensures len { result ≡ self.now.ctx_len }
     {
         self.ctx_len
     }
 
-    /// States what holds of the ring with this number, whatever calls came before: its chapter is legal from its opening, which a legal history leads to. For
-    /// the proofs of callers; it does nothing.
+    /// States the invariant of the ring with this number, whatever calls were made before: its chapter (the current
+    /// segment of its history) is legal from its opening, which is the summary of a legal history.
+    ///
+    /// For the proofs of callers; the function does nothing.
     pub fn facts(&self, ring: u32)
         requires ring { ring < length self.now.rings }
         ensures kept { OfRing ring (λ v. (earlier : List Entry) × IsKept earlier v.ring.chapter) self.now.rings }
@@ -117,7 +123,8 @@ impl Engine {
         self.rings.facts(ring);
     }
 
-    /// Adds a program, and returns its number; the error is want of memory, and then the engine is as it was.
+    /// Adds a program and returns its number, counted from 0. Fails only if memory can't be allocated, and then leaves
+    /// the engine unchanged.
     pub fn add(&mut self, program: Verified) -> Result<u32, AllocError>
         requires context { program.ctx_len ≡ self.old.ctx_len }
         requires rings { program.rings ≡ length self.old.rings }
@@ -134,7 +141,8 @@ impl Engine {
         Ok(number)
     }
 
-    /// Answers a query of the ring with this number (bpf-helpers(7), bpf_ringbuf_query).
+    /// Returns the answer to a query of the ring with this number (bpf-helpers(7), bpf_ringbuf_query), or 0 if `what`
+    /// is unknown.
     pub fn query(&self, ring: u32, what: u64) -> u64
         requires ring { ring < length self.now.rings }
         ensures answer { OfRing ring (λ v. result ≡ query_answer_from v.ring.chapter.opening v.ring.chapter.entries what) self.now.rings }
@@ -142,7 +150,8 @@ impl Engine {
         self.rings.answer(ring, what)
     }
 
-    /// Returns the six counts of all that the ring with this number ever did.
+    /// Returns the six totals of the ring with this number since the engine was opened. The refusal count saturates at
+    /// `u64::MAX`.
     pub fn counts(&self, ring: u32) -> Counts
         requires ring { ring < length self.now.rings }
         ensures counts { OfRing ring (λ v. result ≡ told_counts v.ring) self.now.rings }
@@ -150,9 +159,12 @@ impl Engine {
         self.rings.counts(ring)
     }
 
-    /// Outputs a copy of the bytes to the ring with this number, as a program does.
+    /// Outputs a copy of the bytes as one record to the ring with this number, as a program does, and returns its
+    /// notice: whether the consumer needs a wake-up.
     ///
-    /// `Full` if the ring or its chapter has no room: its records stay, and only the count of refusals may rise. `Memory` leaves all as it was.
+    /// Returns `Full` if the ring or its chapter has no room; the ring keeps its records, and only its count of
+    /// refusals may increase. Returns `Memory` if memory for more than 16 bytes can't be allocated, or if there are
+    /// more than `u32::MAX` bytes; then nothing changed.
     pub fn put(&mut self, ring: u32, bytes: &[u8], flags: u64) -> Result<Notice, NotSent>
         requires ring { ring < length self.old.rings }
         requires flags { flags ≤ 3 }
@@ -166,7 +178,8 @@ impl Engine {
         self.rings.put(ring, bytes, flags)
     }
 
-    /// Returns the length of the next record of the ring with this number, or `None` if there is none or it was not submitted.
+    /// Returns the length in bytes of the next record of the ring with this number, or `None` if there is no record or
+    /// the next one was not submitted.
     pub fn front_len(&self, ring: u32) -> Option<u32>
         requires ring { ring < length self.now.rings }
         ensures waiting { IfSome result (λ n. OfRing ring (λ v. HasWaitingFront v n) self.now.rings) }
@@ -175,7 +188,7 @@ impl Engine {
         self.rings.front_len(ring)
     }
 
-    /// Takes the next record of the ring with this number.
+    /// Takes the next record of the ring with this number, as `RingState::take` does.
     pub fn take(&mut self, ring: u32) -> Taken
         requires ring { ring < length self.old.rings }
         ensures taken { AtRing ring (Takes result) self.old.rings self.new.rings }
@@ -187,7 +200,9 @@ impl Engine {
         self.rings.take(ring)
     }
 
-    /// Runs the program with this number to its end over the engine's rings, and returns what it ended with, or why it did not run.
+    /// Runs the program with this number to its end over the engine's rings, and returns the program's result.
+    ///
+    /// Returns `NoRun` if it did not run; then the rings are unchanged.
     pub fn run(&mut self, number: u32, context: &[u8]) -> Result<u64, NoRun>
         requires number { number < length self.old.programs }
         ensures ran { IfOk result (λ value. RunsProgram number context.now value self.old self.new) }
@@ -211,7 +226,7 @@ impl Engine {
     }
 }
 
-// Returns whether a ring may have each of these sizes.
+// Returns whether each of these is the size of a ring.
 fn are_sizes(sizes: &[u64]) -> bool
     ensures { IsTrue result ↔ All IsRingSize sizes.now }
 {
@@ -223,7 +238,7 @@ fn are_sizes(sizes: &[u64]) -> bool
     true
 }
 
-// A ring of each of these sizes, without records.
+// Returns a ring of each of these sizes, without records.
 fn open_rings(alloc: Global, sizes: &[u64]) -> Result<Vec<EngineRing>, AllocError>
     requires sizes { All IsRingSize sizes.now }
     requires few { length sizes.now ≤ 16 }

@@ -1,12 +1,12 @@
-//! The records that an engine grants.
+//! A record that an engine granted.
 
 use rb_chapter_ring::Reservation;
 use rb_lend::Lent;
 
-/// A record that was granted at one of an engine's rings: the reservation, and the number of the ring.
+/// A record that a ring of an engine granted: the ring's number and the reservation.
 #[derive(Drop)]
 pub struct EngineRecord {
-    /// The ring's number.
+    /// The number of the ring.
     pub ring: u32,
     /// The reservation at that ring.
     pub reservation: Reservation,

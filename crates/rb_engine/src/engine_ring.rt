@@ -1,4 +1,5 @@
-//! A ring of one thread that turns its own chapters.
+//! A ring for one thread that turns its own chapters: when its chapter (the current segment of its history) is full, it
+//! continues in an empty one.
 
 ghost use Rattle.std.specs.Prelude.{◌≡◌, ◌<◌, IfNone, IfSome, length};
 ghost use Rattle.rb_chapter_ring.specs.Chapters.{IsChapterRoom};
@@ -13,27 +14,29 @@ use rb_lend::{Lent, Sheet};
 use std::alloc::{AllocError, Global};
 use std::marker::Model;
 
-/// The engine is the only worker of each of its rings.
+/// The worker's number: the engine is the only worker of each of its rings.
 const WORKER: u32 = 0;
 
-/// The most entries that a chapter has room for.
+/// The maximal room of a chapter, in entries.
 const MAX_ROOM: u64 = 1 << 20;
 
-/// Why a ring took no bytes.
+/// Why bytes were not output to a ring.
 #[derive(Clone, Copy, Debug, PartialEq, Eq)]
 pub enum NotSent {
-    /// The ring has no room for the record, or its chapter has none.
+    /// The ring or its chapter has no room for the record.
     Full,
-    /// There is no memory for a record of more than 16 bytes. Nothing changed.
+    /// Memory for more than 16 bytes could not be allocated, or there are more than `u32::MAX` bytes. Nothing changed.
     Memory,
 }
 
-/// A ring for one thread, with the chapter that it goes on in when its own is full. It allocates all its memory when it is opened, except that of
-/// records of more than 16 bytes. Contracts see the ring with its hands.
+/// A ring for one thread, with the chapter in which it continues when its own is full. Contracts see the ring with its
+/// hands (slots for records in flight).
+///
+/// `new` allocates all memory, except that of records of more than 16 bytes.
 #[derive(Drop)]
 pub(crate) struct EngineRing {
     ring: RingState,
-    // The chapter to go on in; it is empty.
+    // The chapter in which the ring continues; it is empty.
     spare: Option<Chapter>,
 }
 
@@ -70,7 +73,7 @@ impl EngineRing {
     ghost use Rattle.rb_engine.specs.RingTurns.{AfterTurn, MayTurn};
     ghost use Rattle.rb_engine.specs.declared.engine_ring.NotSent.TheVariants.{Full, Memory};
 
-    /// Returns a ring of `size` bytes without records; the error is want of memory.
+    /// Returns a ring of `size` bytes without records, whose tag is `number`. Fails only if memory can't be allocated.
     pub(crate) fn new(alloc: Global, number: u32, size: u64) -> Result<EngineRing, AllocError>
         requires size { IsRingSize size }
         ensures opened { IfOk result (λ r. r ≡ fresh_ring size) }
@@ -88,8 +91,10 @@ impl EngineRing {
         })
     }
 
-    /// States what holds of each ring: its chapter is legal from its opening, which a legal history stands for, and it is what the ring's state
-    /// stands for. For the proofs of callers; it does nothing.
+    /// States the invariant of a ring: its chapter is legal from its opening, which is the summary of a legal history;
+    /// the ring's state agrees with the chapter; and the ring has a worker.
+    ///
+    /// For the proofs of callers; the function does nothing.
     pub(crate) fn facts(&self)
         ensures kept { (earlier : List Entry) × IsKept earlier self.now.ring.chapter }
         ensures stands { StandsForChapter self.now.ring }
@@ -98,7 +103,7 @@ impl EngineRing {
         self.ring.facts();
     }
 
-    // Goes on in the spare chapter, which the old one becomes.
+    // Continues in the spare chapter. The old chapter is emptied and becomes the spare one.
     #[cold]
     #[inline(never)]
     fn turn(&mut self)
@@ -111,7 +116,8 @@ impl EngineRing {
         self.spare = Some(emptied(answer));
     }
 
-    // Turns the chapter where it has no room for a record, and an eighth of it is used: so turns cost constant time for each entry.
+    // Turns the chapter if it has no room for a record and at least an eighth of its room is used. The second condition
+    // keeps the time of turns constant per entry, amortized.
     fn make_room(&mut self)
         ensures turned { MayTurn self.old self.new }
     {
@@ -121,7 +127,8 @@ impl EngineRing {
         }
     }
 
-    /// Reserves a record of `n` zero bytes, or returns `None`: no room, no free hand, or no memory for more than 16 bytes.
+    /// Reserves a record of `n` zero bytes. Returns `None` if there is no room, if no hand is free, or if memory for
+    /// more than 16 bytes can't be allocated.
     pub(crate) fn reserve(&mut self, alloc: Global, n: u32) -> Option<Reservation>
         ensures granted { IfSome result (λ r. AfterTurn (Grants n r) self.old self.new) }
         ensures zeros { IfSome result (λ r. r.granted.bytes ≡ replicate n 0) }
@@ -138,7 +145,7 @@ impl EngineRing {
         self.reserve_in(hand, n, sheet)
     }
 
-    // Reserves a record in the chapter as it is.
+    // Reserves a record in the current chapter.
     fn reserve_in(&mut self, hand: u32, n: u32, sheet: Sheet) -> Option<Reservation>
         requires hand { IsFree (hands_of self.old.hands 0) hand }
         requires sized { length sheet ≡ n }
@@ -153,14 +160,14 @@ impl EngineRing {
         Some(reservation)
     }
 
-    /// Returns whether the reservation's record is out in its hand, so that it may be submitted or discarded.
+    /// Returns whether the reservation's record is in its hand, so that it may be submitted or discarded.
     pub(crate) fn is_out(&self, reservation: &Reservation) -> bool
         ensures exact { IsTrue result ↔ HasInHand self.now reservation.now.hand reservation.now.granted }
     {
         self.ring.is_out(reservation)
     }
 
-    /// Submits or discards the record of a reservation, which is out in its hand.
+    /// Submits or discards the reservation's record, as `end` says. The record must be in its hand.
     pub(crate) fn settle(&mut self, reservation: Reservation, end: RecordEnd, flags: u64) -> Notice
         requires out { HasInHand self.old reservation.hand reservation.granted }
         ensures ended { EndsFromHand end reservation.hand reservation.granted self.old self.new }
@@ -169,7 +176,7 @@ impl EngineRing {
         self.ring.settle(reservation, end, flags)
     }
 
-    /// Outputs a copy of the bytes as one record, or returns why not.
+    /// Outputs a copy of the bytes as one record, or returns why it did not.
     pub(crate) fn output(
         &mut self,
         alloc: Global,
@@ -189,7 +196,7 @@ impl EngineRing {
         self.output_in(sheet, flags)
     }
 
-    // Outputs the sheet in the chapter as it is.
+    // Outputs the sheet (the byte buffer of one record) in the current chapter.
     fn output_in(&mut self, sheet: Sheet, flags: u64) -> Result<Notice, NotSent>
         requires flags { flags ≤ 3 }
         ensures sent { IfOk result (λ notice. Outputs sheet flags notice self.old self.new) }
@@ -203,7 +210,7 @@ impl EngineRing {
         Ok(notice)
     }
 
-    /// Takes the record at the consumer position, as `RingState::take`.
+    /// Takes the record at the consumer position, as `RingState::take` does.
     pub(crate) fn take(&mut self) -> Taken
         ensures takes { Takes result self.old self.new }
         ensures front { WasFront result self.old }
@@ -219,7 +226,7 @@ impl EngineRing {
         self.ring.take()
     }
 
-    /// Returns the length of the record at the consumer position if that record was submitted.
+    /// Returns the length in bytes of the record at the consumer position, if that record was submitted.
     pub(crate) fn front_len(&self) -> Option<u32>
         ensures waiting { IfSome result (λ n. HasWaitingFront self.now n) }
         ensures none { IfNone result ((n : ℕ) → ¬ HasWaitingFront self.now n) }
@@ -234,14 +241,14 @@ impl EngineRing {
         }
     }
 
-    /// Answers a query, as `RingState::query`.
+    /// Returns the answer to a query, as `RingState::query` does.
     pub(crate) fn query(&self, what: u64) -> u64
         ensures answer { result ≡ query_answer_from self.now.ring.chapter.opening self.now.ring.chapter.entries what }
     {
         self.ring.query(what)
     }
 
-    /// Returns the six counts of all that the ring ever did, as `RingState::counts`.
+    /// Returns the six totals since the ring was opened, as `RingState::counts` does.
     pub(crate) fn counts(&self) -> Counts
         ensures counts { result ≡ told_counts self.now.ring }
     {
@@ -249,7 +256,8 @@ impl EngineRing {
     }
 }
 
-// How many entries a chapter of a ring of this size has room for: three for each record that the ring can hold, as far as chapters go.
+// Returns the room of the chapters of a ring of this size, in entries: three for each record that the ring can hold,
+// but at most `MAX_ROOM`.
 fn room_for(size: u64) -> u32
     requires size { IsRingSize size }
     ensures room { IsChapterRoom result }
@@ -262,7 +270,7 @@ fn room_for(size: u64) -> u32
     wanted as u32
 }
 
-// The chapter to go on in next: the one that was handed out, emptied, or the one that was handed back.
+// Returns the next spare chapter: the one that was handed out, emptied, or the one that was returned.
 fn emptied(answer: Result<Chapter, Chapter>) -> Chapter {
     match answer {
         Ok(mut out) => {
@@ -273,7 +281,8 @@ fn emptied(answer: Result<Chapter, Chapter>) -> Chapter {
     }
 }
 
-// A sheet with a copy of the bytes, or `None`: there are more than a record can have, or no memory for more than 16.
+// Returns a sheet with a copy of the bytes, or `None` if there are more bytes than a record can have, or if memory for
+// more than 16 bytes can't be allocated.
 fn copy_of(alloc: Global, bytes: &[u8]) -> Option<Sheet>
     ensures copied { IfSome result (λ s. s ≡ bytes.now) }
     ensures long { IfNone result (16 < length bytes.now) }

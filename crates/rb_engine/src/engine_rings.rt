@@ -21,7 +21,7 @@ use rb_interp::{Done, EAGAIN, EINVAL, Helpers};
 use std::alloc::{AllocError, Global};
 use std::marker::Model;
 
-/// The rings of an engine, with the trace of the calls of one run. A ring's number is its place among them.
+/// The rings of an engine, and the trace of the calls of one run. A ring's number is its index.
 #[derive(Drop)]
 pub(crate) struct EngineRings {
     alloc: Global,
@@ -50,7 +50,7 @@ impl Model for EngineRings {
 }
 
 impl EngineRings {
-    /// Returns rings without a trace and with room for no call.
+    /// Returns these rings with an empty trace that has room for no call.
     pub(crate) fn new(alloc: Global, rings: Vec<EngineRing>) -> EngineRings
         ensures new { result ≡ record { rings = rings.items; trace = []; room = 0 } }
     {
@@ -62,7 +62,8 @@ impl EngineRings {
         }
     }
 
-    /// Forgets the calls of the last run, and makes room for `calls` calls, as far as the trace has memory for them.
+    /// Clears the trace of the last run, and makes room in it for `calls` calls. Fails only if memory for them can't be
+    /// allocated, and then leaves the rings unchanged.
     pub(crate) fn begin(&mut self, calls: usize) -> Result<(), AllocError>
         ensures begun { IfOk result (λ _. self.new ≡ record { rings = self.old.rings; trace = []; room = calls }) }
         ensures refused { IfErr result (λ _. self.new.rings ≡ self.old.rings) }
@@ -74,7 +75,7 @@ impl EngineRings {
         Ok(())
     }
 
-    /// Outputs a copy of the bytes to the ring with this number, as `EngineRing::output`.
+    /// Outputs a copy of the bytes to the ring with this number, as `EngineRing::output` does.
     pub(crate) fn put(&mut self, ring: u32, bytes: &[u8], flags: u64) -> Result<Notice, NotSent>
         requires ring { ring < length self.old.rings }
         requires flags { flags ≤ 3 }
@@ -86,7 +87,7 @@ impl EngineRings {
         self.rings[ring as usize].output(self.alloc, bytes, flags)
     }
 
-    /// Takes the next record of the ring with this number, as `EngineRing::take`.
+    /// Takes the next record of the ring with this number, as `EngineRing::take` does.
     pub(crate) fn take(&mut self, ring: u32) -> Taken
         requires ring { ring < length self.old.rings }
         ensures taken { AtRing ring (Takes result) self.old.rings self.new.rings }
@@ -96,7 +97,7 @@ impl EngineRings {
         self.rings[ring as usize].take()
     }
 
-    /// Answers a query of the ring with this number, as `EngineRing::query`.
+    /// Returns the answer to a query of the ring with this number, as `EngineRing::query` does.
     pub(crate) fn answer(&self, ring: u32, what: u64) -> u64
         requires ring { ring < length self.now.rings }
         ensures answer { OfRing ring (λ v. result ≡ query_answer_from v.ring.chapter.opening v.ring.chapter.entries what) self.now.rings }
@@ -104,7 +105,7 @@ impl EngineRings {
         self.rings[ring as usize].query(what)
     }
 
-    /// Returns the counts of the ring with this number, as `EngineRing::counts`.
+    /// Returns the totals of the ring with this number, as `EngineRing::counts` does.
     pub(crate) fn counts(&self, ring: u32) -> Counts
         requires ring { ring < length self.now.rings }
         ensures counts { OfRing ring (λ v. result ≡ told_counts v.ring) self.now.rings }
@@ -112,7 +113,7 @@ impl EngineRings {
         self.rings[ring as usize].counts()
     }
 
-    /// Returns the length of the next record of the ring with this number, as `EngineRing::front_len`.
+    /// Returns the length of the next record of the ring with this number, as `EngineRing::front_len` does.
     pub(crate) fn front_len(&self, ring: u32) -> Option<u32>
         requires ring { ring < length self.now.rings }
         ensures waiting { IfSome result (λ n. OfRing ring (λ v. HasWaitingFront v n) self.now.rings) }
@@ -121,7 +122,7 @@ impl EngineRings {
         self.rings[ring as usize].front_len()
     }
 
-    /// States what holds of the ring with this number, as `EngineRing::facts`.
+    /// States the invariant of the ring with this number, as `EngineRing::facts` does.
     pub(crate) fn facts(&self, ring: u32)
         requires ring { ring < length self.now.rings }
         ensures kept { OfRing ring (λ v. (earlier : List Entry) × IsKept earlier v.ring.chapter) self.now.rings }
@@ -129,7 +130,7 @@ impl EngineRings {
         self.rings[ring as usize].facts();
     }
 
-    // Notes a call and its answer.
+    // Appends a call with its answer to the trace.
     fn log(&mut self, done: Done)
         requires room { 0 < self.old.room }
         ensures noted { self.new ≡ with_call self.old done }
@@ -138,7 +139,7 @@ impl EngineRings {
         self.room -= 1;
     }
 
-    // Reserves a record, without noting the call.
+    // Reserves a record. Does not append the call to the trace.
     fn try_reserve(&mut self, ring: u32, n: u32, flags: u64) -> Option<EngineRecord>
         requires ring { has_number self.old ring ≡ true }
         ensures rest { self.new ≡ record self.old { rings = self.new.rings } }
@@ -155,7 +156,9 @@ impl EngineRings {
         Some(EngineRecord { ring, reservation })
     }
 
-    // Outputs bytes, without noting the call: `-EINVAL` for flags above 3, `-EAGAIN` if no record could be made, else 0.
+    // Outputs bytes. Does not append the call to the trace.
+    //
+    // Returns `-EINVAL` for flags above 3, `-EAGAIN` if no record could be granted, and 0 otherwise.
     fn try_output(&mut self, ring: u32, bytes: &[u8], flags: u64) -> i64
         requires ring { has_number self.old ring ≡ true }
         ensures rest { self.new ≡ record self.old { rings = self.new.rings } }
@@ -171,7 +174,8 @@ impl EngineRings {
         0
     }
 
-    // Ends a record, without noting the call. One that is out in no hand of its ring is handed back.
+    // Submits or discards a record, or returns it if it is in no hand of its ring. Does not append the call to the
+    // trace.
     fn try_end(
         &mut self,
         owned: EngineRecord,
@@ -194,7 +198,7 @@ impl EngineRings {
         Ok(())
     }
 
-    // Ends a record, and notes the call.
+    // Submits or discards a record, or returns it, and appends the call to the trace.
     fn end(&mut self, owned: EngineRecord, how: RecordEnd, flags: u64) -> Result<(), EngineRecord>
         requires room { 0 < self.old.room }
         ensures trace { self.new.trace ≡ self.old.trace ++ ended_note how flags (is_ok result) ∷ [] }
@@ -216,7 +220,7 @@ impl EngineRings {
     }
 }
 
-// The note of the call.
+// Returns the trace's entry for the call.
 fn note_of_end(how: RecordEnd, flags: u64, taken: bool) -> Done
     ensures { result ≡ ended_note how flags taken }
 {
@@ -254,8 +258,9 @@ impl Helpers for EngineRings {
 
     ghost leads_on = { called_on };
 
-    /// Returns null if the flags are not 0, if the ring or its chapter has no room, if none of the four hands is free, or if there is no memory for more than
-    /// 16 bytes.
+    /// Returns a record of `n` zero bytes, or `None`, which is null to the program: if the flags are not 0, if the ring
+    /// or its chapter has no room, if none of the four hands is free, or if memory for more than 16 bytes can't be
+    /// allocated.
     fn reserve(&mut self, ring: u32, n: u32, flags: u64) -> Option<EngineRecord>
         requires room { 0 < self.old.room }
         requires ring { has_number self.old ring ≡ true }
@@ -276,7 +281,7 @@ impl Helpers for EngineRings {
         answer
     }
 
-    /// Takes each record that is out at its ring, and hands back any other.
+    /// Submits the record if it is in a hand of its ring, and returns any other.
     fn submit(&mut self, owned: EngineRecord, flags: u64) -> Result<(), EngineRecord>
         requires room { 0 < self.old.room }
         ensures trace { self.new.trace ≡ self.old.trace ++ Submit flags (is_ok result) ∷ [] }
@@ -289,7 +294,7 @@ impl Helpers for EngineRings {
         self.end(owned, RecordEnd::Submit, flags)
     }
 
-    /// Takes each record that is out at its ring, and hands back any other.
+    /// Discards the record if it is in a hand of its ring, and returns any other.
     fn discard(&mut self, owned: EngineRecord, flags: u64) -> Result<(), EngineRecord>
         requires room { 0 < self.old.room }
         ensures trace { self.new.trace ≡ self.old.trace ++ Discard flags (is_ok result) ∷ [] }
@@ -302,7 +307,9 @@ impl Helpers for EngineRings {
         self.end(owned, RecordEnd::Discard, flags)
     }
 
-    /// Returns `-EINVAL` for flags above 3, `-EAGAIN` if no record could be made, else 0.
+    /// Outputs a copy of the bytes to the ring.
+    ///
+    /// Returns `-EINVAL` for flags above 3, `-EAGAIN` if no record could be granted, and 0 otherwise.
     fn output(&mut self, ring: u32, bytes: &[u8], flags: u64) -> i64
         requires room { 0 < self.old.room }
         requires ring { has_number self.old ring ≡ true }
@@ -322,7 +329,7 @@ impl Helpers for EngineRings {
         answer
     }
 
-    /// Returns the ring's answer.
+    /// Returns the ring's answer to the query.
     fn query(&mut self, ring: u32, what: u64) -> u64
         requires room { 0 < self.old.room }
         requires ring { has_number self.old ring ≡ true }

@@ -1,5 +1,8 @@
-//! An engine that stays open: rings and verified programs for one thread, without a lock, so that programs run over rings whose records a caller puts and
-//! takes in between.
+//! An engine: rings and verified programs that persist between calls, for one thread and without a lock.
+//!
+//! Each ring of an engine is a `RingState` of `rb_chapter_ring`. Programs run over the rings one after another; between
+//! the runs, the caller puts records into the rings and takes records from them. Each call continues with the rings as
+//! the previous call left them.
 #![tactic(auto)]
 
 mod engine;

@@ -1,4 +1,4 @@
-//! Each public call, with exact answers.
+//! Tests of each public call, with exact results.
 
 ghost use Rattle.std.specs.Prelude.{◌≡◌, [], length};
 
@@ -13,19 +13,19 @@ use rb_verifier::{Verified, verify};
 use std::alloc::Global;
 use std::process::Abort;
 
-// Reserves a record of eight bytes, and submits 42 if it was granted.
+// A program that reserves a record of eight bytes, and submits 42 if it was granted.
 const SUBMIT_42: &str = "1851000000000000 0000000000000000 b702000008000000 b703000000000000
     8500000083000000 1500040000000000 7a0000002a000000 bf01000000000000
     b702000000000000 8500000084000000 b700000000000000 9500000000000000";
 
-// Reserves a record of eight bytes, discards it if it was granted, and ends with 7.
+// A program that reserves a record of eight bytes, discards it if it was granted, and returns 7.
 const DISCARD_8: &str = "1851000000000000 0000000000000000 b702000008000000 b703000000000000
     8500000083000000 1500030000000000 bf01000000000000
     b702000000000000 8500000085000000 b700000007000000 9500000000000000";
 
 const CONTEXT: [u8; 16] = [0; 16];
 
-// An engine with rings of 4,096 and 8,192 bytes, for contexts of 16 bytes.
+// Returns an engine with rings of 4,096 and 8,192 bytes, for contexts of 16 bytes.
 fn opened(rt: &impl Abort, alloc: Global) -> Engine
     ensures rings { length result.rings ≡ 2 }
     ensures programs { result.programs ≡ [] }
@@ -34,7 +34,7 @@ fn opened(rt: &impl Abort, alloc: Global) -> Engine
     Engine::open(alloc, &[4096, 8192], 16).expect(rt, "an engine")
 }
 
-// A program that such an engine runs.
+// Returns a verified program that such an engine runs.
 fn verified(rt: &impl Abort, alloc: Global, text: &str) -> Verified
     ensures rings { result.rings ≡ 2 }
     ensures ctx_len { result.ctx_len ≡ 16 }
@@ -44,7 +44,7 @@ fn verified(rt: &impl Abort, alloc: Global, text: &str) -> Verified
     verify(alloc, shape, 16, 2).expect(rt, "a verified program")
 }
 
-// Whether a take took the record at this position, with these bytes.
+// Returns whether the record at this position was taken, with these bytes.
 fn is_event(taken: Taken, position: u64, bytes: &[u8]) -> bool {
     match taken {
         Taken::Event(at, _, _, sheet) => at == position && sheet.bytes() == bytes,
@@ -135,7 +135,7 @@ fn refusals_have_their_reasons(rt: HostRuntime) {
     assert_eq!(rt; notices, [Ok(Notice::NotDue), Ok(Notice::Due)]);
 }
 
-// Puts a byte into ring 0, and takes it; whether that was all of the ring.
+// Puts a byte into ring 0 and takes it. Returns whether the byte was at this position and the only record of the ring.
 fn passes(engine: &mut Engine, byte: u8, position: u64) -> bool {
     if engine.rings() == 0 {
         return false;

@@ -30,6 +30,3 @@ pub use outputs::{OutputEnd, RingOutput};
 pub use refusal::StreamRefusal;
 pub use rings::RingPlan;
 pub use service::{ServiceFault, ServiceRequest, serve};
-
-#[cfg(test)]
-mod tests;

@@ -1,4 +1,4 @@
--- Faults of lower layers, as refusals of a program; out of memory is none.
+-- Faults of lower layers, as refusals of a program; a failed allocation is not one.
 use Rattle.std.specs.Prelude.{ℕ, Option, Some, None}
 use Rattle.rb_program.specs.declared.shape_fault.ShapeFault.{ShapeFault}
 use Rattle.rb_program.specs.declared.shape_fault.ShapeFaultKind.{ShapeFaultKind}

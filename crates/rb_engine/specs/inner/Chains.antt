@@ -1,4 +1,4 @@
--- Calls at the rings, one after another; and a record is kept whatever is written to it.
+-- Sequences of calls at the rings, and the law that a record remains kept when it is written to.
 use Rattle.std.proofs.Common.{◌≡◌, ℕ, List, [], ◌∷◌, ◌++◌, Some, refl, sym, subst, length, length-append, arith}
 use Rattle.std.proofs.lemmas.List.{length-take, length-drop}
 use Rattle.rb_lend.specs.Ranges.{in_place_of}
@@ -7,11 +7,11 @@ use Rattle.rb_interp.specs.AnsweredCalls.{AnsweredCall}
 use Rattle.rb_engine.specs.declared.engine_record.EngineRecord.{EngineRecord}
 use Rattle.rb_engine.specs.EngineCalls.{IsStillOut, Leads, RunRings}
 
--- no call leaves the rings as they were
+-- a sequence of no calls leaves the rings unchanged
 pub none_called : (h : RunRings) → Leads h [] h
 none_called h = refl
 
--- calls, and then calls from where those led
+-- a sequence of calls, followed by calls from the state to which it led
 pub called_on : (a b c : RunRings) (first more : List (AnsweredCall EngineRecord)) → Leads a first b → Leads b more c → Leads a (first ++ more) c
 called_on a b c [] more before after = subst (λ h. Leads h more c) before after
 called_on a b c (call ∷ later) more before after = (before.0, before.1, called_on before.0 b c later more before.2 after)

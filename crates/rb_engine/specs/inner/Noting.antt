@@ -1,4 +1,4 @@
--- How a call is noted in a run's trace.
+-- How calls are appended to the trace of a run.
 use Rattle.std.specs.Prelude.{ℕ, ◌-◌, Bool, [], ◌∷◌, ◌++◌}
 use Rattle.rb_chapter_ring.specs.declared.record_end.RecordEnd.{RecordEnd}
 use Rattle.rb_chapter_ring.specs.declared.record_end.RecordEnd.TheVariants as end
@@ -8,7 +8,7 @@ use Rattle.rb_interp.specs.declared.done.Done.TheVariants.{Submit, Discard}
 use Rattle.rb_engine.specs.declared.engine_record.EngineRecord.{EngineRecord}
 use Rattle.rb_engine.specs.EngineCalls.{RunRings}
 
--- with one call more in the trace
+-- the trace with one more call, and room for one less
 abbrev pub with_call : RunRings → Done → RunRings
 with_call h done = record h { trace = h.trace ++ done ∷ []; room = h.room - 1 }
 

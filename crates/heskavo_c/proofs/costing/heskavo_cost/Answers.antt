@@ -1,4 +1,4 @@
-use Rattle.std.proofs.Common.{refl, ◌∙◌, ap, map}
+use Rattle.std.proofs.Common.{◌∙◌, ap, map}
 use Rattle.heskavo_c.specs.Costs.{ring_row}
 use Rattle.heskavo_c.proofs.costing.heskavo_cost.Goals as goal
 
@@ -9,7 +9,7 @@ returns-clause-told c =
       accepted = c.in-Ok.ensures.accepted;
       cost = c.in-Ok-cost_of.found;
       exact = c.in-Ok-cost_of.ensures;
-      steps = refl;
-      calls = refl;
+      steps = c.total_of.ensures.steps;
+      calls = c.total_of.ensures.calls;
       rings = c.put_rows.ensures ∙ ap (map ring_row) c.as_slice.ensures.value;
     }

@@ -3,7 +3,7 @@ use Rattle.rb_cost.specs.Cost.{no_ring_cost}
 use Rattle.heskavo_c.specs.Costs.{ring_row}
 use Rattle.heskavo_c.proofs.costing.put_rows.Goals as goal
 
--- one more place has the value of its element
+-- one more element has its new value
 set_mapped : {X Y : Type 0} (f : X → Y) (xs : List X) (ys : List Y) (i : ℕ) (d : X) → length ys ≡ length xs → i < length xs → set (map f (take i xs) ++ drop i ys) i (f (get_or xs i d)) ≡ map f (take (suc i) xs) ++ drop (suc i) ys
 set_mapped f [] ys i d same lt = absurd (omega arith)
 set_mapped f (x ∷ xs) [] i d same lt = absurd (omega arith)

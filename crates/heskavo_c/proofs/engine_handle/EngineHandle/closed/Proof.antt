@@ -1,4 +1,4 @@
--- `closed` makes a null pointer, which owns nothing.
+-- `closed` creates a null pointer, which owns nothing.
 use Rattle.std.proofs.Common.{◌≡◌, [], ◌∷◌, refl, lit<, None}
 use mir.Val.{Val}
 use base.Logic.{SProp, emp}

@@ -1,4 +1,4 @@
--- `into_loose` tests the pointer, and gives away what it owns.
+-- `into_loose` tests the pointer, and passes on what it owns.
 use Rattle.std.proofs.Common.{◌≡◌, List, [], ◌∷◌, ◌++◌, refl, sym, ap, ◌∙◌, subst, lit<, None, Some}
 use mir.Val.{Val, vptr, vcons, vnil}
 use base.Logic.{SProp, ent, emp, id⊢}

@@ -1,4 +1,4 @@
--- `of` keeps the pointer with what it owns.
+-- `of` keeps the pointer and what it owns.
 use Rattle.std.proofs.Common.{◌≡◌, List, [], ◌∷◌, ◌++◌, refl, sym, subst, Some}
 use mir.Val.{Val, vptr}
 use base.Logic.{SProp, ent, emp, id⊢}

@@ -1,4 +1,4 @@
--- What is promised of kept records follows from what each call does at the rings.
+-- The laws of kept records follow from the effect of each call at the rings.
 use Rattle.std.specs.Prelude.{is_ok}
 use Rattle.rb_chapter_ring.specs.declared.record_end.RecordEnd.TheVariants.{Submit, Discard}
 use Rattle.rb_engine.proofs.KeptRecords.{reserve-keeps, reserve-kept, end-keeps, end-frees, output-keeps, query-keeps}
