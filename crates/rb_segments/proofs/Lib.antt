@@ -1,0 +1,5 @@
+pub mod Directories
+pub mod RecordsHeld
+pub mod RecordsPut
+pub mod Restarting
+pub mod InMemory
