@@ -5,6 +5,7 @@ ghost use Rattle.std.specs.Io.KnownBytes.{Keeps};
 ghost use Rattle.rb_history.specs.RingModel.{IsRingSize, IsStartPosition};
 ghost use Rattle.rb_tape_commands.specs.inner.PayloadSteps.{IsWholeInput};
 
+use crate::follow_words::carry_out_follow;
 use crate::progress::{Metered, Progress};
 use crate::reasons::{Seen, reason_of};
 use crate::refusal::{CommandRefusal, object_of};
@@ -66,6 +67,7 @@ where
         Ok(ParsedCommand::Stream(options)) => carry_out_stream(
             rt, alloc, &options, input, out, err,
         ),
+        Ok(ParsedCommand::Follow(asked)) => carry_out_follow(rt, alloc, &asked, out, err),
         Err(error) => print_usage(&error, out, err),
     }
 }

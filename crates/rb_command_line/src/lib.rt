@@ -6,6 +6,7 @@
 
 mod bounds;
 mod dispatch;
+mod follow_words;
 mod options;
 mod progress;
 mod reasons;

@@ -1,5 +1,6 @@
 //! What the command line may say.
 
+use crate::follow_words::follow_options;
 use crate::stream_options::stream;
 use clap::{Arg, ArgAction, Command};
 use rb_version::VERSION;
@@ -20,7 +21,8 @@ pub(crate) fn program<'a>(alloc: Global) -> Result<Command<'a>, AllocError> {
     let program = with(program, cost(alloc))?;
     let program = with(program, run(alloc))?;
     let program = with(program, sim(alloc))?;
-    with(program, stream(alloc))
+    let program = with(program, stream(alloc))?;
+    with(program, follow_options(alloc))
 }
 
 /// The command of this name, by itself.
@@ -34,6 +36,7 @@ pub(crate) fn subcommand<'a>(alloc: Global, name: &str) -> Result<Command<'a>, A
         "cost" => cost(alloc)?,
         "run" => run(alloc)?,
         "stream" => stream(alloc)?,
+        "follow" => follow_options(alloc)?,
         _ => sim(alloc)?,
     };
     command.bin_name(bin_name.as_str())

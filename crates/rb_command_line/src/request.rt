@@ -5,6 +5,7 @@ ghost use Rattle.std.specs.Option.{SomeIff};
 ghost use Rattle.std.specs.Str.Parse.{IsNumeral, digits_value};
 
 use crate::bounds::{SIZES, STARTS};
+use crate::follow_words::FollowRequest;
 use crate::options::{program, subcommand};
 use crate::terminals::Terminals;
 use clap::error::ErrorKind;
@@ -155,10 +156,12 @@ pub(crate) struct CommandLine<'a> {
 /// A command, whichever it is.
 #[derive(Drop)]
 pub(crate) enum ParsedCommand<'a> {
-    /// Any but `stream`.
+    /// Any but `stream` and `follow`.
     Command(CommandLine<'a>),
     /// A stream.
     Stream(StreamOptions<'a>),
+    /// A ring that is followed.
+    Follow(FollowRequest<'a>),
 }
 
 /// The command that these words name, which follow the program's name on the command line. An error is help or the version that was
@@ -173,13 +176,15 @@ pub(crate) fn parse<'a, S: AsStr>(
     let Some((name, options)) = matches.subcommand() else {
         return Err(program.error(ErrorKind::MissingSubcommand, "no command was given")?);
     };
-    if name == "stream" {
-        let values = Values {
-            alloc,
-            command: name,
-            options,
-        };
-        return Ok(ParsedCommand::Stream(values.stream()?));
+    let values = Values {
+        alloc,
+        command: name,
+        options,
+    };
+    match name {
+        "stream" => return Ok(ParsedCommand::Stream(values.stream()?)),
+        "follow" => return Ok(ParsedCommand::Follow(values.follow()?)),
+        _ => {}
     }
     let request = command_request(alloc, name, options)?;
     let is_watched = terminals.err && !terminals.out;
@@ -290,7 +295,7 @@ impl<'a> Values<'_, 'a> {
     }
 
     // How lines of output are written.
-    fn form(&self) -> LineForm {
+    pub(crate) fn form(&self) -> LineForm {
         if self.options.get_flag("json") {
             LineForm::Json
         } else {
@@ -354,7 +359,7 @@ impl<'a> Values<'_, 'a> {
 }
 
 // The number that decimal digits spell, if it is below 2^64. `parse` alone would take a plus in front.
-fn decimal(text: &str) -> Option<u64>
+pub(crate) fn decimal(text: &str) -> Option<u64>
     ensures { SomeIff result (IsNumeral 10 text.now × (digits_value 10 text.now < 2 ^ 64)) (digits_value 10 text.now) }
 {
     if text.as_bytes().first() == Some(&b'+') {

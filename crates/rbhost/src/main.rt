@@ -1,11 +1,11 @@
-//! A host for eBPF programs that write into BPF ring buffers, as a program with eight commands.
+//! A host for eBPF programs that write into BPF ring buffers, as a program with nine commands.
 //!
 //! `feed` puts payloads through a ring and writes the bytes that a reader of the kernel's ring buffer maps (ringbuf.rst). `tape` reads
 //! them back. `check` decodes and verifies a program (RFC 9669), runs it once over fresh rings, and prints the records that it left. `cost` prints what an
 //! accepted program can cost at most, and `explain` that behind what the verifier knows before each instruction, or why a program is refused. `run` has
 //! workers run a verified program on threads over one ring, and prints what each counted; what the ring's consumer took it writes to a file as a tape,
 //! where one is asked for. `sim` runs a script of workers and rings in turns, without threads. `stream` runs verified programs on contexts as they arrive,
-//! and writes the records of each ring as a tape.
+//! and writes the records of each ring as a tape. `follow` prints the records of a tape in segments while they are written.
 //!
 //! What is promised is on the public calls of the crates below: `command` (rb_command_line) says which statuses there are, `feed` and `tape`
 //! (rb_tape_commands) what was read and written by their answers, `explain` and `cost` (rb_loader) what was explained and that a cost is exact,
