@@ -5,6 +5,7 @@ ghost use Rattle.std.specs.Option.{SomeIff};
 ghost use Rattle.std.specs.Str.Parse.{IsNumeral, digits_value};
 
 use crate::bounds::{SIZES, STARTS};
+use crate::cost_sizes::SizesFor;
 use crate::options::{program, subcommand};
 use crate::terminals::Terminals;
 use clap::error::ErrorKind;
@@ -45,11 +46,11 @@ pub(crate) enum Subcommand<'a> {
         form: LineForm,
         portable: bool,
     },
-    /// Prints what a program can cost at most: how it is printed, and the jobs for which a ring's size is chosen, where that is asked for.
+    /// Prints what a program can cost at most: how it is printed, and for what the sizes of rings are chosen, if that is asked for.
     Cost {
         bounds: Bounds,
         form: LineForm,
-        jobs: Option<JobsAtOnce>,
+        sizes: Option<SizesFor>,
     },
     /// Verifies a program and runs it as jobs on threads, and writes what they sent as a tape to the file of this name, where there is one.
     Run {
@@ -218,7 +219,7 @@ fn command_request<'a>(
         "cost" => Ok(Subcommand::Cost {
             bounds: values.bounds()?,
             form: values.form(),
-            jobs: values.jobs_at_once()?,
+            sizes: values.sizes()?,
         }),
         "run" => Ok(Subcommand::Run {
             jobs: values.jobs()?,
@@ -278,15 +279,17 @@ impl<'a> Values<'_, 'a> {
         })
     }
 
-    // The jobs for which a ring's size is chosen, where that is asked for: the one option comes with the other.
-    fn jobs_at_once(&self) -> Result<Option<JobsAtOnce>, Error> {
+    // For what the sizes of rings are chosen, if that is asked for.
+    fn sizes(&self) -> Result<Option<SizesFor>, Error> {
         if self.options.get_str("workers").is_none() {
             return Ok(None);
         }
-        Ok(Some(JobsAtOnce {
-            workers: self.bounded("workers", 1, 256)?,
-            behind: self.bounded("behind", 0, 1_000_000)?,
-        }))
+        let workers = self.bounded("workers", 1, 256)?;
+        if self.options.get_str("behind").is_none() {
+            return Ok(Some(SizesFor::Turns(workers)));
+        }
+        let behind = self.bounded("behind", 0, 1_000_000)?;
+        Ok(Some(SizesFor::Jobs(JobsAtOnce { workers, behind })))
     }
 
     // How lines of output are written.

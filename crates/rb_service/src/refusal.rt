@@ -2,7 +2,7 @@
 
 ghost use Rattle.std.specs.Prelude.{◌≡◌, ◌↔◌, All, IfErr, IfNone, IfSome, IsTrue, OnOk};
 ghost use Rattle.rb_history.specs.RingModel.{IsRingSize};
-ghost use Rattle.rb_service.specs.Command.{HasContexts, IsAllowed, IsRightRefusal, IsWrongFirst};
+ghost use Rattle.rb_service.specs.Command.{HasContexts, IsAllowed, IsLater, IsRightRefusal, IsWrongFirst};
 
 use crate::options::{NamedRing, StreamOptions};
 use crate::service::ServiceFault;
@@ -39,6 +39,13 @@ pub enum StreamRefusal<'a> {
     /// The tape of this ring was not written completely.
     #[error("tape of ring {0}")]
     Tape(&'a str),
+    /// Workers are to wait for room, and the ring of this name is the first that one context of every worker does not fit. The number is the size
+    /// of the smallest ring that it fits.
+    #[error("size of ring {0}: one context of every worker needs {1}")]
+    Small(&'a str, u64),
+    /// The same, and there is no ring that one context of every worker fits.
+    #[error("size of ring {0}: one context of every worker fits no ring")]
+    NoneFits(&'a str),
     /// The stream did not begin, or stopped.
     #[error("{0}")]
     Service(ServiceFault),
@@ -84,6 +91,22 @@ fn find_wrong<'a>(rings: &[NamedRing<'a>]) -> Option<NamedRing<'a>>
         }
     }
     None
+}
+
+/// Returns the refusal of a service with this fault. It names the ring that is too small by its name.
+pub(crate) fn refusal_of<'a>(options: &StreamOptions<'a>, fault: ServiceFault) -> StreamRefusal<'a>
+    ensures later { IsLater result }
+{
+    let ServiceFault::TooSmall(small) = fault else {
+        return StreamRefusal::Service(fault);
+    };
+    let Some(ring) = options.rings.get(small.ring) else {
+        return StreamRefusal::Service(fault);
+    };
+    match small.least {
+        Some(least) => StreamRefusal::Small(ring.name, least),
+        None => StreamRefusal::NoneFits(ring.name),
+    }
 }
 
 /// Returns the first refusal of the options by themselves: of the contexts, of the rings' sizes in their order, and of the workers.
