@@ -3,6 +3,7 @@ use Rattle.std.proofs.Common.{◌≡◌, ℕ, zero, suc, ◌+◌, false, List, [
 use Rattle.std.specs.Prelude.{All}
 use Rattle.std.specs.List.{AllZip}
 use Rattle.std.proofs.lemmas.List.Elements.{All-cons, All-nil}
+use Rattle.atomic_table.specs.Seated.{TableId}
 use Rattle.rb_history.specs.RingModel.{IsStartPosition}
 use Rattle.rb_chapter_ring.specs.Chapters.{empty_chapter}
 use Rattle.rb_ledger.specs.ChapterSeats.{fresh_chapter_consumer}
