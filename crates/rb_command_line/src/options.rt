@@ -266,7 +266,7 @@ fn portable<'a>(alloc: Global) -> Arg<'a> {
     Arg::new(alloc, "portable")
         .long("portable")
         .action(ArgAction::SetTrue)
-        .help("Print a line for each unit at which Linux refuses the program")
+        .help("Print a line for each unit that Linux has a known reason to refuse")
 }
 
 fn draw<'a>(alloc: Global) -> Arg<'a> {
