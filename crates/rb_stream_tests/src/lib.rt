@@ -2,9 +2,9 @@
 #![tactic(auto)]
 
 #[cfg(test)]
-mod dropped;
-#[cfg(test)]
 mod given;
+#[cfg(test)]
+mod held;
 #[cfg(test)]
 mod refused;
 #[cfg(test)]

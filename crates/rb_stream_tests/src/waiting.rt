@@ -7,7 +7,7 @@ use super::given::{
     EventSum, OUTPUT_CONTEXT, OUTPUT_TO_SECOND, contexts, same, two_rings, verified,
 };
 use rb_source::{ListSource, Source};
-use rb_stream::{Late, StreamReport, run_stream};
+use rb_stream::{Late, StreamReport};
 use rb_verifier::Verified;
 use rb_waiting::{SmallRing, TurnFault, plan_turns, run_waiting_stream};
 use rb_workers::Opened;
@@ -68,24 +68,6 @@ fn nothing_is_refused_over_small_rings(rt: HostRuntime) {
         same(&rt, &(report.ran, report.unlogged), &(1_000, 0));
         same(&rt, &counted(&report), &(0, 2_000));
     }
-}
-
-#[test]
-fn slow_sinks_have_records_refused_without_waiting(rt: HostRuntime) {
-    let alloc = rt.alloc();
-    let programs = two_programs(&rt, alloc);
-    let all = contexts(&rt, alloc, 1_000);
-    let mut source = ListSource::new(&all, 16);
-    let rings = two_rings(&rt, alloc, 4_096, 2, 50);
-    let Ok(report) = run_stream(&rt, alloc, rings, &programs, &mut source, Late::Block, 16) else {
-        rt.panic("no report")
-    };
-    let (refused, events) = counted(&report);
-    same(
-        &rt,
-        &(refused > 0, refused.saturating_add(events)),
-        &(true, 2_000),
-    );
 }
 
 #[test]

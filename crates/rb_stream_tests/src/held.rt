@@ -1,5 +1,5 @@
-//! A stream whose reader drops contexts. Its consumer takes nothing more until the source is over, so its worker waits
-//! for room in the ring.
+//! Streams whose consumer takes nothing more until the source is over: if the worker waits for room, the reader drops
+//! contexts, and otherwise the ring refuses records.
 
 ghost use Rattle.std.specs.Prelude.{◌≡◌};
 ghost use Rattle.rb_workers.specs.Opened.{AreOpened, IsOpened};
@@ -7,7 +7,7 @@ ghost use Rattle.rb_workers.specs.Opened.{AreOpened, IsOpened};
 use super::given::{OUTPUT_CONTEXT, OneByOne, contexts, same, verified};
 use rb_history::span;
 use rb_source::{Filled, Piece, Source, SourceFault};
-use rb_stream::{Late, StreamReport};
+use rb_stream::{Late, StreamReport, run_stream};
 use rb_verifier::Verified;
 use rb_waiting::{plan_turns, run_waiting_stream};
 use rb_workers::{Chapter, Item, Opened, Sink};
@@ -18,10 +18,12 @@ use std::sync::atomic::{AtomicBool, Ordering};
 use std::thread;
 use std::thread::Threads;
 
-// How many contexts the source gives, one in each piece. Before the source is over, at most 577 of them are dealt: two
-// rings of 4,096 bytes full of records of 16 bytes, of which the consumer took the first, a queue of 64 pieces, and one
-// context that waits.
+// How many contexts the source gives, one in each piece.
 const CONTEXTS: u32 = 700;
+
+// How many contexts there is room for before the source is over: two rings of 4,096 bytes full of records of 16 bytes,
+// of which the consumer took the first, a queue of 64 pieces, and one context at the worker.
+const ROOM: u64 = 577;
 
 /// A source that sets a flag when it is over.
 #[derive(Drop)]
@@ -138,7 +140,7 @@ fn one_ring<'a, R: Wait + Abort>(
 }
 
 // Returns the report of a stream whose worker waits for room, and whose reader does not wait.
-fn report<'a, R: Threads + Wait + Sync + Abort>(
+fn dropping<'a, R: Threads + Wait + Sync + Abort>(
     rt: &R,
     alloc: Global,
     rings: Vec<Opened<HeldSink<'a>>>,
@@ -156,6 +158,42 @@ fn report<'a, R: Threads + Wait + Sync + Abort>(
     }
 }
 
+// Returns the report of a stream whose reader waits, and whose worker does not wait for room.
+fn refusing<'a, R: Threads + Wait + Sync + Abort>(
+    rt: &R,
+    alloc: Global,
+    rings: Vec<Opened<HeldSink<'a>>>,
+    programs: &[Verified],
+    source: &mut Announced<'a>,
+) -> StreamReport<HeldSink<'a>>
+    requires { AreOpened (λ s. s.position) rings.items }
+{
+    match run_stream(rt, alloc, rings, programs, source, Late::Block, 16) {
+        Ok(report) => report,
+        Err(_) => rt.panic("no report"),
+    }
+}
+
+// Returns how many records the ring of a report refused, and how many its sink got.
+fn counted(report: &StreamReport<HeldSink<'_>>) -> (u64, u64) {
+    let mut all: (u64, u64) = (0, 0);
+    for ended in &report.rings {
+        for tally in &ended.tallies {
+            all.0 = all.0.saturating_add(tally.refused);
+        }
+        all.1 = all.1.saturating_add(ended.sink.records);
+    }
+    all
+}
+
+// Returns a source of these contexts, which sets the flag when it is over.
+fn announced<'a>(list: &'a [Vec<u8>], over: &'a AtomicBool) -> Announced<'a> {
+    Announced {
+        inner: OneByOne { list, next: 0 },
+        over,
+    }
+}
+
 #[test]
 fn late_contexts_are_dropped_and_counted(rt: HostRuntime) {
     let alloc = rt.alloc();
@@ -163,27 +201,43 @@ fn late_contexts_are_dropped_and_counted(rt: HostRuntime) {
     let programs = vec![in alloc; program].expect(&rt, "memory");
     let all = contexts(&rt, alloc, CONTEXTS);
     let over = AtomicBool::new(false);
-    let mut source = Announced {
-        inner: OneByOne {
-            list: &all,
-            next: 0,
-        },
-        over: &over,
-    };
+    let mut source = source_of(&all, &over);
     let rings = one_ring(&rt, alloc, &over);
-    let report = report(&rt, alloc, rings, &programs, &mut source);
-    let mut records = 0;
-    for ended in &report.rings {
-        records = ended.sink.records;
-    }
+    let report = dropping(&rt, alloc, rings, &programs, &mut source);
     same(
         &rt,
         &(
-            report.dropped >= u64::from(CONTEXTS) - 577,
+            report.dropped >= u64::from(CONTEXTS) - ROOM,
             report.ran.saturating_add(report.dropped),
             report.contexts,
         ),
         &(true, u64::from(CONTEXTS), u64::from(CONTEXTS)),
     );
-    same(&rt, &(records, report.unlogged), &(report.ran, 0));
+    same(
+        &rt,
+        &(counted(&report), report.unlogged),
+        &((0, report.ran), 0),
+    );
+}
+
+#[test]
+fn records_are_refused_without_waiting(rt: HostRuntime) {
+    let alloc = rt.alloc();
+    let program = verified(&rt, alloc, OUTPUT_CONTEXT, 16, 1);
+    let programs = vec![in alloc; program].expect(&rt, "memory");
+    let all = contexts(&rt, alloc, CONTEXTS);
+    let over = AtomicBool::new(false);
+    let mut source = source_of(&all, &over);
+    let rings = one_ring(&rt, alloc, &over);
+    let report = refusing(&rt, alloc, rings, &programs, &mut source);
+    let (refused, records) = counted(&report);
+    same(
+        &rt,
+        &(
+            refused >= u64::from(CONTEXTS) - ROOM,
+            refused.saturating_add(records),
+            report.ran,
+        ),
+        &(true, u64::from(CONTEXTS), u64::from(CONTEXTS)),
+    );
 }
