@@ -187,7 +187,7 @@ fn counted(report: &StreamReport<HeldSink<'_>>) -> (u64, u64) {
 }
 
 // Returns a source of these contexts, which sets the flag when it is over.
-fn announced<'a>(list: &'a [Vec<u8>], over: &'a AtomicBool) -> Announced<'a> {
+fn source_of<'a>(list: &'a [Vec<u8>], over: &'a AtomicBool) -> Announced<'a> {
     Announced {
         inner: OneByOne { list, next: 0 },
         over,
