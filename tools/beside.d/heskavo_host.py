@@ -9,11 +9,18 @@ RBHOST = pathlib.Path(__file__).resolve().parent.parent / "rbhost"
 ROOM = 16_384
 
 
+def found_program():
+    """Returns the path of the program that tools/rbhost runs, which builds it if there is none. A warning that it is old is printed once."""
+    subprocess.run([RBHOST, "--version"], check=True, stdout=subprocess.DEVNULL)
+    which = subprocess.run([RBHOST, "--which"], check=True, stdout=subprocess.PIPE, text=True)
+    return which.stdout.splitlines()[0].split(" ", 1)[1]
+
+
 class HeskavoHost:
     """A program rbhost: the given one, or the one that tools/rbhost finds."""
 
     def __init__(self, program=None):
-        self.program = str(program or RBHOST)
+        self.program = str(program or found_program())
         self.pool = concurrent.futures.ThreadPoolExecutor(os.cpu_count())
 
     def answer(self, command):
