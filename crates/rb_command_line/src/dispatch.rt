@@ -5,6 +5,7 @@ ghost use Rattle.std.specs.Io.KnownBytes.{Keeps};
 ghost use Rattle.rb_history.specs.RingModel.{IsRingSize, IsStartPosition};
 ghost use Rattle.rb_tape_commands.specs.inner.PayloadSteps.{IsWholeInput};
 
+use crate::cost_sizes::cost_with_sizes;
 use crate::progress::{Metered, Progress};
 use crate::reasons::{Seen, reason_of};
 use crate::refusal::{CommandRefusal, object_of};
@@ -17,7 +18,7 @@ use clap::Error;
 use clap::error::ErrorKind;
 use rb_io::{NotedReader, NotedWriter, write_whole};
 use rb_json::LineForm;
-use rb_loader::{Bounds, ProgramFault, cost, explain, explain_portable, read_all};
+use rb_loader::{Bounds, ProgramFault, explain, explain_portable, read_all};
 use rb_run_commands::{JobsFault, TapeFile, check, check_portable, run, run_to_file};
 use rb_script::{SimFault, line_reason, sim};
 use rb_tape_commands::{feed_buffered, tape_buffered};
@@ -299,9 +300,11 @@ where
             form,
             portable,
         } => of_program(explained(alloc, input, out, bounds, form, portable)),
-        Subcommand::Cost { bounds, form, jobs } => {
-            of_program(cost(alloc, input, out, bounds, form, jobs))
-        }
+        Subcommand::Cost {
+            bounds,
+            form,
+            sizes,
+        } => of_program(cost_with_sizes(alloc, input, out, bounds, form, sizes)),
         Subcommand::Run { jobs, tape: None } => of_jobs(run(
             rt, alloc, input, out, told, jobs, progress,
         )),

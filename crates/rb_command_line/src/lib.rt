@@ -5,6 +5,7 @@
 #![tactic(auto)]
 
 mod bounds;
+mod cost_sizes;
 mod dispatch;
 mod options;
 mod progress;

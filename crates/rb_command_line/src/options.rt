@@ -116,7 +116,7 @@ fn cost<'a>(alloc: Global) -> Result<Command<'a>, AllocError> {
         )
         .arg(ctx(alloc))?
         .arg(rings(alloc))?
-        .arg(at_once(alloc)?)?
+        .arg(at_once(alloc))?
         .arg(behind(alloc)?)?
         .arg(json(alloc))?
         .arg(why(alloc))?
@@ -164,11 +164,10 @@ fn workers<'a>(alloc: Global) -> Arg<'a> {
     )
 }
 
-fn at_once<'a>(alloc: Global) -> Result<Arg<'a>, AllocError> {
-    option(alloc, "workers")
-        .value_name("W")
-        .help("How many workers run the program at once, for the size of a ring: 1 to 256")
-        .requires_arg("behind")
+fn at_once<'a>(alloc: Global) -> Arg<'a> {
+    option(alloc, "workers").value_name("W").help(
+        "How many workers run the program at once, for the size of a ring: 1 to 256; without --behind, they wait for room as those of stream --full wait",
+    )
 }
 
 fn behind<'a>(alloc: Global) -> Result<Arg<'a>, AllocError> {

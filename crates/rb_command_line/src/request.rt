@@ -5,6 +5,7 @@ ghost use Rattle.std.specs.Option.{SomeIff};
 ghost use Rattle.std.specs.Str.Parse.{IsNumeral, digits_value};
 
 use crate::bounds::{SIZES, STARTS};
+use crate::cost_sizes::SizesFor;
 use crate::options::{program, subcommand};
 use crate::terminals::Terminals;
 use clap::error::ErrorKind;
@@ -48,12 +49,12 @@ pub(crate) enum Subcommand<'a> {
         form: LineForm,
         portable: bool,
     },
-    /// Prints the most that a program can cost, verified within these bounds, in this form. If there are jobs, also
-    /// chooses the size of a ring for them.
+    /// Prints the most that a program can cost, verified within these bounds, in this form. If requested, also chooses
+    /// the sizes of rings.
     Cost {
         bounds: Bounds,
         form: LineForm,
-        jobs: Option<JobsAtOnce>,
+        sizes: Option<SizesFor>,
     },
     /// Verifies a program and runs it as these jobs on threads. If there is a file name, writes the records that the
     /// ring's consumer takes to that file as a tape.
@@ -225,7 +226,7 @@ fn command_request<'a>(
         "cost" => Ok(Subcommand::Cost {
             bounds: values.bounds()?,
             form: values.form(),
-            jobs: values.jobs_at_once()?,
+            sizes: values.sizes()?,
         }),
         "run" => Ok(Subcommand::Run {
             jobs: values.jobs()?,
@@ -285,16 +286,17 @@ impl<'a> Values<'_, 'a> {
         })
     }
 
-    // Returns the jobs for which a ring's size is chosen, if that is requested. The two options are only accepted
-    // together.
-    fn jobs_at_once(&self) -> Result<Option<JobsAtOnce>, Error> {
+    // Returns what the sizes of rings are chosen for, if that is requested.
+    fn sizes(&self) -> Result<Option<SizesFor>, Error> {
         if self.options.get_str("workers").is_none() {
             return Ok(None);
         }
-        Ok(Some(JobsAtOnce {
-            workers: self.bounded("workers", 1, 256)?,
-            behind: self.bounded("behind", 0, 1_000_000)?,
-        }))
+        let workers = self.bounded("workers", 1, 256)?;
+        if self.options.get_str("behind").is_none() {
+            return Ok(Some(SizesFor::Turns(workers)));
+        }
+        let behind = self.bounded("behind", 0, 1_000_000)?;
+        Ok(Some(SizesFor::Jobs(JobsAtOnce { workers, behind })))
     }
 
     // Returns the form of the output.

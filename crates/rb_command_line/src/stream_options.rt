@@ -66,6 +66,11 @@ pub(crate) fn stream<'a>(alloc: Global) -> Result<Command<'a>, AllocError> {
             ),
         )?
         .arg(
+            one(alloc, "full").value_name("FULL").help(
+                "What happens if a ring may be full: refuse refuses records and counts them (the default), wait makes workers wait, so that no record is refused",
+            ),
+        )?
+        .arg(
             one(alloc, "results").value_name("N").help(
                 "Count each result below N by itself: 0 to 65536, 16 by default",
             ),

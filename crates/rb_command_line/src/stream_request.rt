@@ -3,7 +3,7 @@
 use crate::bounds::SIZES;
 use crate::request::{Values, byte_count};
 use clap::Error;
-use rb_service::{NamedRing, StreamOptions};
+use rb_service::{Full, NamedRing, StreamOptions};
 use rb_source::{Fit, Form, Framing};
 use rb_stream::Late;
 use std::alloc::AllocError;
@@ -25,6 +25,7 @@ impl<'a> Values<'_, 'a> {
             },
             from: self.options.get_str("from"),
             late: self.late()?,
+            full: self.full()?,
             results: self.results()?,
         })
     }
@@ -102,6 +103,14 @@ impl<'a> Values<'_, 'a> {
             None | Some("block") => Ok(Late::Block),
             Some("drop") => Ok(Late::Drop),
             _ => Err(self.refused("late", "block or drop")?),
+        }
+    }
+
+    fn full(&self) -> Result<Full, Error> {
+        match self.options.get_str("full") {
+            None | Some("refuse") => Ok(Full::Refuse),
+            Some("wait") => Ok(Full::Wait),
+            _ => Err(self.refused("full", "refuse or wait")?),
         }
     }
 
