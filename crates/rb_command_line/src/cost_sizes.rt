@@ -14,7 +14,7 @@ use std::alloc::Global;
 use std::io::{Read, Write};
 
 /// What the sizes of rings are chosen for.
-#[derive(Clone, Copy, Debug, PartialEq, Eq)]
+#[derive(Clone, Copy)]
 pub(crate) enum SizesFor {
     /// Jobs that may have records in a ring at once.
     Jobs(JobsAtOnce),

@@ -109,21 +109,3 @@ fn nothing_is_refused_to_many_workers(rt: HostRuntime) {
     same(&rt, &(report.ran, report.unlogged, turn), &(1_500, 0, 2));
     same(&rt, &counted(&report), &(0, 24_000));
 }
-
-#[test]
-fn many_workers_have_records_refused_without_waiting(rt: HostRuntime) {
-    let alloc = rt.alloc();
-    let programs = many_programs(&rt, alloc);
-    let all = contexts(&rt, alloc, 1_500);
-    let mut source = ListSource::new(&all, 16);
-    let rings = two_rings(&rt, alloc, 65_536, 64, 200);
-    let Ok(report) = run_stream(&rt, alloc, rings, &programs, &mut source, Late::Block, 16) else {
-        rt.panic("no report")
-    };
-    let (refused, events) = counted(&report);
-    same(
-        &rt,
-        &(refused > 100, refused.saturating_add(events)),
-        &(true, 24_000),
-    );
-}
