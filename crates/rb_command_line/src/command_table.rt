@@ -21,14 +21,14 @@ pub(crate) struct OptionRow {
     /// Its name.
     pub name: &'static str,
     /// How it is written.
-    pub shape: Shape,
+    pub shape: OptionShape,
     /// What it does.
     pub help: &'static str,
 }
 
 /// How an option is written. The first text of each shape with a value is what help calls the value.
 #[derive(Clone, Copy)]
-pub(crate) enum Shape {
+pub(crate) enum OptionShape {
     /// `--name`.
     Flag,
     /// `--name`, which excludes the option with this name.
@@ -105,102 +105,102 @@ const SIM: CommandRow = CommandRow {
 
 const WORKERS: OptionRow = OptionRow {
     name: "workers",
-    shape: Shape::Required("W"),
+    shape: OptionShape::Required("W"),
     help: "How many workers there are, each on a thread of its own: 1 to 256",
 };
 
 const AT_ONCE: OptionRow = OptionRow {
     name: "workers",
-    shape: Shape::Value("W"),
+    shape: OptionShape::Value("W"),
     help: "How many workers run the program at once, for the size of a ring: 1 to 256; without --behind, they wait for room as those of stream --full wait",
 };
 
 const BEHIND: OptionRow = OptionRow {
     name: "behind",
-    shape: Shape::ValueWith("J", "workers"),
+    shape: OptionShape::ValueWith("J", "workers"),
     help: "How many finished jobs the consumer may be behind: 0 to 1000000",
 };
 
 const JOBS: OptionRow = OptionRow {
     name: "jobs",
-    shape: Shape::Required("J"),
+    shape: OptionShape::Required("J"),
     help: "How often each worker runs the program: 1 to 1000000",
 };
 
 const TAPE_FILE: OptionRow = OptionRow {
     name: "tape",
-    shape: Shape::Value("FILE"),
+    shape: OptionShape::Value("FILE"),
     help: "A file that the tape of all that the ring's consumer takes is written to",
 };
 
 const CTX: OptionRow = OptionRow {
     name: "ctx",
-    shape: Shape::Default("N", "16"),
+    shape: OptionShape::Default("N", "16"),
     help: "The length of the context in bytes, at most 65536; K is allowed, as in 1K",
 };
 
 const RINGS: OptionRow = OptionRow {
     name: "rings",
-    shape: Shape::Default("N", "1"),
+    shape: OptionShape::Default("N", "1"),
     help: "How many rings the program knows, at most 16",
 };
 
 const SIZE: OptionRow = OptionRow {
     name: "size",
-    shape: Shape::Required("N"),
+    shape: OptionShape::Required("N"),
     help: "The ring's size in bytes: a power of two from 4096 to 67108864. K and M are allowed, as in 64K",
 };
 
 const START: OptionRow = OptionRow {
     name: "start",
-    shape: Shape::Default("P", "0"),
+    shape: OptionShape::Default("P", "0"),
     help: "The ring's first position: a multiple of 8",
 };
 
 const RETRY: OptionRow = OptionRow {
     name: "retry",
-    shape: Shape::Default("N", "0"),
+    shape: OptionShape::Default("N", "0"),
     help: "How often writing goes on after a write that failed, at most 100",
 };
 
 const JSON: OptionRow = OptionRow {
     name: "json",
-    shape: Shape::Flag,
+    shape: OptionShape::Flag,
     help: "Print an object of JSON in the place of each line",
 };
 
 const WHY: OptionRow = OptionRow {
     name: "why",
-    shape: Shape::Flag,
+    shape: OptionShape::Flag,
     help: "Print the reason of a refusal in front of it, as is done if standard error is a terminal",
 };
 
 const NO_WHY: OptionRow = OptionRow {
     name: "no-why",
-    shape: Shape::FlagWithout("why"),
+    shape: OptionShape::FlagWithout("why"),
     help: "Print no reason of a refusal",
 };
 
 const FILE: OptionRow = OptionRow {
     name: "file",
-    shape: Shape::Operand("FILE"),
+    shape: OptionShape::Operand("FILE"),
     help: "The file to read; standard input if there is none or it is -",
 };
 
 const PROGRESS: OptionRow = OptionRow {
     name: "progress",
-    shape: Shape::Flag,
+    shape: OptionShape::Flag,
     help: "Tell on standard error about once a second how far it is",
 };
 
 const PORTABLE: OptionRow = OptionRow {
     name: "portable",
-    shape: Shape::Flag,
+    shape: OptionShape::Flag,
     help: "Print a line for each unit at which Linux refuses the program",
 };
 
 const DRAW: OptionRow = OptionRow {
     name: "draw",
-    shape: Shape::Flag,
+    shape: OptionShape::Flag,
     help: "Draw each ring as a line behind each turn",
 };

@@ -1,6 +1,6 @@
 //! The parser of the command line, built from the tables of its commands and their options.
 
-use crate::command_table::{COMMANDS, CommandRow, OptionRow, Shape};
+use crate::command_table::{COMMANDS, CommandRow, OptionRow, OptionShape};
 use clap::{Arg, ArgAction, Command};
 use rb_version::VERSION;
 use std::alloc::{AllocError, Global};
@@ -74,17 +74,19 @@ fn with_option<'a>(
 fn argument<'a>(alloc: Global, row: &OptionRow) -> Result<Arg<'a>, AllocError> {
     let argument = Arg::new(alloc, row.name).help(row.help);
     match row.shape {
-        Shape::Flag => Ok(flag(argument, row.name)),
-        Shape::FlagWithout(other) => flag(argument, row.name).conflicts_with(other),
-        Shape::Value(value) => Ok(one_value(argument, row.name, value)),
-        Shape::Default(value, default) => {
+        OptionShape::Flag => Ok(flag(argument, row.name)),
+        OptionShape::FlagWithout(other) => flag(argument, row.name).conflicts_with(other),
+        OptionShape::Value(value) => Ok(one_value(argument, row.name, value)),
+        OptionShape::Default(value, default) => {
             Ok(one_value(argument, row.name, value).default_value(default))
         }
-        Shape::ValueWith(value, other) => one_value(argument, row.name, value).requires_arg(other),
-        Shape::Required(value) => Ok(one_value(argument, row.name, value).required(true)),
-        Shape::Values(value) => Ok(values(argument, row.name, value)),
-        Shape::RequiredValues(value) => Ok(values(argument, row.name, value).required(true)),
-        Shape::Operand(value) => Ok(argument.value_name(value)),
+        OptionShape::ValueWith(value, other) => one_value(argument, row.name, value).requires_arg(
+            other,
+        ),
+        OptionShape::Required(value) => Ok(one_value(argument, row.name, value).required(true)),
+        OptionShape::Values(value) => Ok(values(argument, row.name, value)),
+        OptionShape::RequiredValues(value) => Ok(values(argument, row.name, value).required(true)),
+        OptionShape::Operand(value) => Ok(argument.value_name(value)),
     }
 }
 

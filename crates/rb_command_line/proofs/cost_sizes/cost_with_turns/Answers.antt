@@ -12,7 +12,7 @@ returns-in-Ok-clause-printed g c =
       cost = c.in_ok-cost.cost;
       exact = c.in_ok-cost.ensures;
       printed = subst (Appends _ _)
-      (c.as_bytes.ensures.value ∙ c.in_ok-push_str.ensures.bytes ∙ ap (λ (all : List ℕ). all ++ c.as_str.result.now) c.in_ok-lines.ensures.text
-      ∙ ap (λ (all : List ℕ). _ ++ all) (c.as_str.ensures.value ∙ c.in_ok-sizes.ensures.text))
-      c.in-Ok.ensures.whole;
+          (c.as_bytes.ensures.value ∙ c.in_ok-push_str.ensures.bytes ∙ ap (λ (all : List ℕ). all ++ c.as_str.result.now) c.in_ok-lines.ensures.text
+          ∙ ap (λ (all : List ℕ). _ ++ all) (c.as_str.ensures.value ∙ c.in_ok-sizes.ensures.text))
+          c.in-Ok.ensures.whole;
     })
