@@ -50,17 +50,12 @@ impl<'a> Values<'_, 'a> {
         })
     }
 
-    // Returns the values of an option that may be given several times.
-    fn all(&self, name: &str) -> &[&'a str] {
-        match self.options.get_strs(name) {
-            Some(texts) => texts,
-            None => &[],
-        }
-    }
-
+    // Returns the files of the programs.
     fn programs(&self) -> Result<Vec<&'a str>, AllocError> {
         let mut programs = Vec::new(self.alloc);
-        programs.extend_from_slice(self.all("program"))?;
+        if let Some(texts) = self.options.get_strs("program") {
+            programs.extend_from_slice(texts)?;
+        }
         Ok(programs)
     }
 
@@ -68,11 +63,21 @@ impl<'a> Values<'_, 'a> {
     // a second output to standard output.
     fn rings(&self) -> Result<Vec<NamedRing<'a>>, Error> {
         let mut rings = Vec::new(self.alloc);
-        for text in self.all("ring") {
-            self.add_ring(&mut rings, text)?;
+        if let Some(texts) = self.options.get_strs("ring") {
+            self.add_rings(&mut rings, texts)?;
         }
-        self.add_outputs(rings.as_mut_slice())?;
+        if let Some(texts) = self.options.get_strs("out") {
+            self.add_outputs(rings.as_mut_slice(), texts)?;
+        }
         Ok(rings)
+    }
+
+    // Appends the rings that these texts name.
+    fn add_rings(&self, rings: &mut Vec<NamedRing<'a>>, texts: &[&'a str]) -> Result<(), Error> {
+        for text in texts {
+            self.add_ring(rings, *text)?;
+        }
+        Ok(())
     }
 
     // Appends the ring that a text names.
@@ -95,19 +100,29 @@ impl<'a> Values<'_, 'a> {
         Ok(())
     }
 
-    // Sets the outputs of the rings.
-    fn add_outputs(&self, rings: &mut [NamedRing<'a>]) -> Result<(), Error> {
+    // Sets the outputs that these texts name.
+    fn add_outputs(&self, rings: &mut [NamedRing<'a>], texts: &[&'a str]) -> Result<(), Error> {
         let mut printed = false;
-        for text in self.all("out") {
-            let Some((name, path)) = text.split_once('=') else {
-                return Err(self.wrong("out", text, "NAME=FILE"));
-            };
-            if path == "-" && printed || !set_output(rings, name, path) {
-                return Err(self.wrong("out", text, "a ring without an output, and a file"));
-            }
-            printed |= path == "-";
+        for text in texts {
+            printed = self.add_output(rings, *text, printed)?;
         }
         Ok(())
+    }
+
+    // Sets the output that a text names. Returns whether standard output is an output.
+    fn add_output(
+        &self,
+        rings: &mut [NamedRing<'a>],
+        text: &'a str,
+        printed: bool,
+    ) -> Result<bool, Error> {
+        let Some((name, path)) = text.split_once('=') else {
+            return Err(self.wrong("out", text, "NAME=FILE"));
+        };
+        if path == "-" && printed || !set_output(rings, name, path) {
+            return Err(self.wrong("out", text, "a ring without an output, and a file"));
+        }
+        Ok(printed || path == "-")
     }
 
     // Returns the form of contexts.
