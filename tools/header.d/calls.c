@@ -55,6 +55,11 @@ static int is_verdict(const struct heskavo_verdict *verdict) {
     return verdict->layer == HESKAVO_RULES && verdict->number == HESKAVO_RULE_UNREADABLE && verdict->unit == 2;
 }
 
+static int is_explanation(const char *text, uint64_t length) {
+    static const char first[] = "      #  r1 ", last[] = "ring 1 records 2 bytes 48 held 32\n";
+    return length > sizeof first + sizeof last && !memcmp(text, first, sizeof first - 1) && !memcmp(text + length + 1 - sizeof last, last, sizeof last - 1);
+}
+
 static void verify_and_explain(void) {
     struct heskavo_verdict verdict = {0, 0, 0};
     static uint8_t text[65536];
@@ -64,7 +69,8 @@ static void verify_and_explain(void) {
     expect(heskavo_verify(PROGRAM, sizeof PROGRAM, 21, 17, &verdict) == HESKAVO_ARGUMENT, "heskavo_verify takes no 17 rings");
     expect(heskavo_verify(REFUSED, sizeof REFUSED, 21, 2, &verdict) == HESKAVO_REFUSED && is_verdict(&verdict), "the verdict of heskavo_verify");
     expect(heskavo_explain(PROGRAM, sizeof PROGRAM, 21, 2, text, 0, &wanted) == HESKAVO_ROOM && wanted > 0, "heskavo_explain wants room");
-    expect(heskavo_explain(PROGRAM, sizeof PROGRAM, 21, 2, text, sizeof text, &wanted) == HESKAVO_DONE && text[0], "heskavo_explain writes");
+    expect(heskavo_explain(PROGRAM, sizeof PROGRAM, 21, 2, text, sizeof text, &wanted) == HESKAVO_DONE && is_explanation((const char *)text, wanted),
+           "heskavo_explain writes");
     expect(heskavo_explain(REFUSED, sizeof REFUSED, 21, 2, text, sizeof text, &wanted) == HESKAVO_REFUSED, "heskavo_explain of a refused program");
 }
 
@@ -156,6 +162,7 @@ static void read_linux_headers(void) {
     expect(heskavo_linux_page(8192, at + 24, 3, &on_page) == HESKAVO_DONE, "heskavo_linux_page");
     expect(on_page.first == page && on_page.end == at + 4096 && on_page.max_len == 8176, "the page of heskavo_linux_page");
     expect(heskavo_linux_page(8192, at + 4, 3, &on_page) == HESKAVO_ARGUMENT, "heskavo_linux_page at no position");
+    expect(heskavo_linux_page(8192, at + 24, 1u << 31, &on_page) == HESKAVO_ARGUMENT, "heskavo_linux_page behind too many pages");
 }
 
 /* A ring of 4,096 bytes, and one of 8,192: PROGRAM leaves a discarded record of 24 bytes and one of 8 in the second, and the caller puts three bytes there. */
@@ -170,6 +177,7 @@ static void keep_an_engine(void) {
     uint32_t number = 9;
     uint64_t value = 0;
     expect(heskavo_engine_run(&engine, 0, CONTEXT, sizeof CONTEXT, &value) == HESKAVO_ARGUMENT, "a closed engine runs nothing");
+    expect(heskavo_engine_put(&engine, 0, CONTEXT, 1, 0) == HESKAVO_ARGUMENT, "a closed engine takes no record");
     expect(heskavo_engine_open(no_sizes, 2, 8, &engine) == HESKAVO_ARGUMENT && !engine.inside, "heskavo_engine_open of a size that no ring has");
     expect(heskavo_engine_open(sizes, 2, 8, &engine) == HESKAVO_DONE && engine.inside, "heskavo_engine_open");
     expect(heskavo_engine_open(sizes, 2, 8, &engine) == HESKAVO_ARGUMENT && engine.inside, "heskavo_engine_open of an open handle");
@@ -190,6 +198,7 @@ static void keep_an_engine(void) {
     expect(heskavo_engine_take(&engine, 1, buffer, 7, &record) == HESKAVO_ROOM && record.len == 8, "heskavo_engine_take wants room");
     expect(heskavo_engine_take(&engine, 1, buffer, 8, &record) == HESKAVO_DONE && record.position == 32 && record.len == 8 && record.discarded == 0
            && !memcmp(buffer, CONTEXT, sizeof CONTEXT), "heskavo_engine_take");
+    expect(heskavo_engine_take(&engine, 1, NULL, 0, &record) == HESKAVO_ROOM && record.len == 3, "heskavo_engine_take of the record that was put wants room");
     expect(heskavo_engine_take(&engine, 0, buffer, 8, &record) == HESKAVO_EMPTY, "heskavo_engine_take of an empty ring");
     expect(heskavo_engine_query(&engine, 1, 3, &value) == HESKAVO_DONE && value == 64, "heskavo_engine_query of the producer position");
     expect(heskavo_engine_query(&engine, 2, 3, &value) == HESKAVO_ARGUMENT, "heskavo_engine_query of no ring");

@@ -11,12 +11,8 @@
 //! freed before a call returns, except that of an open engine.
 #![tactic(auto)]
 
-#[cfg(test)]
-mod calls;
 mod costing;
 mod engine_answers;
-#[cfg(test)]
-mod engine_calls;
 mod engine_handle;
 mod engine_programs;
 mod engine_records;

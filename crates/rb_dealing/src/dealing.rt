@@ -55,8 +55,8 @@ pub(crate) struct Dealing {
     pub(crate) next: usize,
 }
 
-// Pushes a piece to the first lane that has room for it, from `next` on, and returns its index; or returns the piece if
-// no lane has room.
+// Pushes a piece to the first lane that has room for it, from `next` on, wakes the lane up, and returns its index; or
+// returns the piece if no lane has room.
 fn offer(feeds: &mut [LaneFeed], next: usize, piece: Piece) -> Result<usize, Piece>
     ensures dealt { IfOk result (λ at. (at < length feeds.old) × Fed feeds.old (record { contexts = piece.contexts; worker = Some at } ∷ []) feeds.new) }
     ensures full { IfErr result (λ back. (back ≡ piece) × Fed feeds.old [] feeds.new) }
@@ -65,7 +65,10 @@ fn offer(feeds: &mut [LaneFeed], next: usize, piece: Piece) -> Result<usize, Pie
     for step in 0..feeds.len() {
         let at = next.wrapping_add(step) % feeds.len();
         match feeds[at].pieces.push(piece) {
-            Ok(()) => return Ok(at),
+            Ok(()) => {
+                feeds[at].parker.unpark();
+                return Ok(at);
+            }
             Err(PushError::Full(back)) => piece = back,
         }
     }

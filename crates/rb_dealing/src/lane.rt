@@ -11,8 +11,9 @@ use crate::work::Work;
 use rb_source::Piece;
 use rtrb::{Consumer, Producer, RingBuffer};
 use std::alloc::{AllocError, Global};
-use std::sync::Wait;
 use std::sync::atomic::{AtomicBool, Ordering};
+use std::sync::{Arc, Wait};
+use std::thread::Parker;
 
 /// The maximal number of pieces that wait for a worker.
 pub const PIECES: usize = 64;
@@ -27,6 +28,8 @@ pub struct Lane<W> {
     pub worker: W,
     pub(crate) pieces: Consumer<Piece>,
     pub(crate) used: Producer<Piece>,
+    // It sleeps on this if its queue is empty.
+    pub(crate) parker: Arc<Parker>,
 }
 
 /// The other ends of a lane's queues.
@@ -34,6 +37,15 @@ pub struct Lane<W> {
 pub struct LaneFeed {
     pub(crate) pieces: Producer<Piece>,
     pub(crate) used: Consumer<Piece>,
+    // Wakes the lane up.
+    pub(crate) parker: Arc<Parker>,
+}
+
+/// Wakes all lanes up.
+pub(crate) fn wake_all(feeds: &[LaneFeed]) {
+    for feed in feeds {
+        feed.parker.unpark();
+    }
 }
 
 impl<W: Drop> Lane<W> {
@@ -46,9 +58,11 @@ impl<W: Drop> Lane<W> {
     {
         let (to_lane, pieces) = RingBuffer::new(alloc, PIECES)?;
         let (used, from_lane) = RingBuffer::new(alloc, USED)?;
+        let parker = Arc::new(alloc, Parker::new())?;
         let feed = LaneFeed {
             pieces: to_lane,
             used: from_lane,
+            parker: parker.clone()?,
         };
         Ok((
             feed,
@@ -56,6 +70,7 @@ impl<W: Drop> Lane<W> {
                 worker,
                 pieces,
                 used,
+                parker,
             },
         ))
     }
@@ -96,7 +111,8 @@ impl<W: Work> Lane<W> {
         let _full = self.used.push(piece);
     }
 
-    /// Runs the pieces that arrive, until the reader has ended and a poll that was started after that finds none.
+    /// Runs the pieces that arrive, until the reader has ended and a poll that was started after that finds none. The
+    /// reader wakes the lane up after each piece and after it has ended.
     pub(crate) fn work<R: Wait>(&mut self, rt: &R, ended: &AtomicBool, short: &AtomicBool)
         requires ready { W.ready self.old.worker }
         ensures ran { LaneRan W.ready W.runs self.old self.new }
@@ -116,7 +132,7 @@ impl<W: Work> Lane<W> {
                     if over {
                         return;
                     }
-                    idle.wait(rt);
+                    idle.wait_parked(rt, &*self.parker);
                 }
             }
         }

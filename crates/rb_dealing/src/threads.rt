@@ -9,7 +9,7 @@ ghost use Rattle.rb_dealing.specs.Queues.{AreEmptyQueues, AreFeedsOf};
 ghost use Rattle.rb_dealing.specs.declared.lane.Lane.{Lane};
 
 use crate::dealing::{DealEnd, Dealing, Dealt, Late, deal};
-use crate::lane::{Lane, LaneFeed};
+use crate::lane::{Lane, LaneFeed, wake_all};
 use crate::work::{Work, runs_go_on};
 use rb_source::Source;
 use std::alloc::Global;
@@ -81,6 +81,7 @@ fn deal_and_work<R: Threads + Wait + Sync, I: Source + Send, W: Work + Send>(
         {
             *end = deal(rt, alloc, source, late, feeds, is_short, dealing);
             is_ended.store(true, Ordering::SeqCst);
+            wake_all(feeds);
         },
     );
 }

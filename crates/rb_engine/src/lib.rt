@@ -9,8 +9,6 @@ mod engine;
 mod engine_record;
 mod engine_ring;
 mod engine_rings;
-#[cfg(test)]
-mod tests;
 
 pub use engine::{Engine, NoRun};
 pub use engine_ring::NotSent;

@@ -81,6 +81,17 @@ impl<'r, 'j, R: Wait, G: Gate, K: Stock> JobRunner<'r, 'j, R, G, K> {
         Ok(run_begun(&mut self.helpers, &mut self.machine, job))
     }
 
+    /// Exchanges the worker's seats for others, at these rings and in their order. Returns the earlier seats. The
+    /// memory for jobs is kept, so a worker can use its seats itself between two jobs.
+    pub fn exchange_seats(&mut self, rings: &'r [SharedRing], seats: Vec<Seat>) -> Vec<Seat>
+        requires seats { AtRings rings.now seats.items }
+        ensures new { self.new ≡ record { rings = rings.now; seats = seats.items; calls = self.old.calls } }
+        ensures returned { result.items ≡ self.old.seats }
+        ensures at_rings { AtRings self.old.rings result.items }
+    {
+        self.helpers.inner.exchange_seats(rings, seats)
+    }
+
     /// Returns the seats, and the number of helper calls that the worker has finished.
     pub fn into_seats(self) -> (Vec<Seat>, u64)
         ensures seats { result.0.items ≡ self.entry.seats }

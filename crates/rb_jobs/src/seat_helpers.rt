@@ -23,6 +23,7 @@ use rb_interp::{Done, Helpers};
 use rb_shared_ring::{Foreign, Reservation, Seat, SharedRing};
 use std::alloc::{AllocError, Global};
 use std::marker::Model;
+use std::mem;
 use std::sync::Wait;
 
 /// Helper functions over the seats of one worker, one at each of a list of rings. A ring's number is its index in the
@@ -129,6 +130,17 @@ impl<'h, R: Wait, S: Stock> SeatHelpers<'h, R, S> {
         self.trace.reserve(room)?;
         self.room = room;
         Ok(())
+    }
+
+    /// Exchanges the seats for others, at these rings and in their order. Returns the earlier seats.
+    pub(crate) fn exchange_seats(&mut self, rings: &'h [SharedRing], seats: Vec<Seat>) -> Vec<Seat>
+        requires seats { AtRings rings.now seats.items }
+        ensures new { self.new ≡ record self.old { rings = rings.now; seats = seats.items } }
+        ensures returned { result.items ≡ self.old.seats }
+        ensures at_rings { AtRings self.old.rings result.items }
+    {
+        self.rings = rings;
+        mem::replace(&mut self.seats, seats)
     }
 
     /// Returns the seats, in the rings' order.

@@ -1,8 +1,10 @@
 //! Tests of the other crates' public calls that are not rows: theorems, the helpers' list, references, single
-//! instructions of a program, helpers over seats, jobs, jobs on threads, and worlds. Programs and their messages are
-//! rows of `rb_program_rows`.
+//! instructions of a program, helpers over seats, jobs, jobs on threads, worlds, and engines. Programs and their messages
+//! are rows of `rb_program_rows`.
 #![tactic(auto)]
 
+#[cfg(test)]
+mod engines;
 #[cfg(test)]
 mod expected;
 #[cfg(test)]

@@ -302,6 +302,7 @@ fn run_known<R: Threads + Wait + Sync, I: Source + Send, S: Sink + Send + Drop>(
         ran: total.contexts,
         results: total.results,
         unlogged: total.unlogged,
+        // No run ends with a stray record: the clause `no_strays` of `run_stream`.
         strays: 0,
         end,
     })

@@ -165,6 +165,7 @@ fn report_on<S: Drop>(
     JobsReport {
         rings,
         answers: results,
+        // No run ends with a stray record (`never_stray` of `IsRun`).
         strays: 0,
         unlogged,
     }

@@ -1,22 +1,16 @@
-//! Tests of each public call, with exact results.
+//! Tests of each public call of an engine, with exact results.
 
 ghost use Rattle.std.specs.Prelude.{◌≡◌, [], length};
 
-use crate::{Engine, NoRun, NotSent};
+use super::shared::{SUBMIT_42, verified};
 use rb_chapter_ring::OpenFault;
+use rb_engine::{Engine, NoRun, NotSent};
 use rb_history::{
     AVAIL_DATA, CONS_POS, Counts, FORCE_WAKEUP, NO_WAKEUP, Notice, PROD_POS, RING_SIZE, Taken,
 };
 use rb_lend::Lent;
-use rb_program::{from_text, shape};
-use rb_verifier::{Verified, verify};
 use std::alloc::Global;
 use std::process::Abort;
-
-// A program that reserves a record of eight bytes, and submits 42 if it was granted.
-const SUBMIT_42: &str = "1851000000000000 0000000000000000 b702000008000000 b703000000000000
-    8500000083000000 1500040000000000 7a0000002a000000 bf01000000000000
-    b702000000000000 8500000084000000 b700000000000000 9500000000000000";
 
 // A program that reserves a record of eight bytes, discards it if it was granted, and returns 7.
 const DISCARD_8: &str = "1851000000000000 0000000000000000 b702000008000000 b703000000000000
@@ -34,16 +28,6 @@ fn opened(rt: &impl Abort, alloc: Global) -> Engine
     Engine::open(alloc, &[4096, 8192], 16).expect(rt, "an engine")
 }
 
-// Returns a verified program that such an engine runs.
-fn verified(rt: &impl Abort, alloc: Global, text: &str) -> Verified
-    ensures rings { result.rings ≡ 2 }
-    ensures ctx_len { result.ctx_len ≡ 16 }
-{
-    let program = from_text(alloc, text).expect(rt, "a program");
-    let shape = shape(alloc, program).expect(rt, "a shape");
-    verify(alloc, shape, 16, 2).expect(rt, "a verified program")
-}
-
 // Returns whether the record at this position was taken, with these bytes.
 fn is_event(taken: Taken, position: u64, bytes: &[u8]) -> bool {
     match taken {
@@ -57,7 +41,7 @@ fn runs_puts_and_takes_go_on_where_the_one_before_ended(rt: HostRuntime) {
     let alloc = rt.alloc();
     let mut engine = opened(&rt, alloc);
     let number = engine
-        .add(verified(&rt, alloc, SUBMIT_42))
+        .add(verified(&rt, alloc, SUBMIT_42, 16, 2))
         .expect(&rt, "memory");
     let results = [engine.run(number, &CONTEXT), engine.run(number, &CONTEXT)];
     let notice = engine.put(0, &[1, 2, 3], 0);
@@ -81,10 +65,10 @@ fn queries_and_counts_are_those_of_all_calls(rt: HostRuntime) {
     let alloc = rt.alloc();
     let mut engine = opened(&rt, alloc);
     let submits = engine
-        .add(verified(&rt, alloc, SUBMIT_42))
+        .add(verified(&rt, alloc, SUBMIT_42, 16, 2))
         .expect(&rt, "memory");
     let discards = engine
-        .add(verified(&rt, alloc, DISCARD_8))
+        .add(verified(&rt, alloc, DISCARD_8, 16, 2))
         .expect(&rt, "memory");
     let results = [
         engine.run(discards, &CONTEXT),
@@ -117,7 +101,7 @@ fn refusals_have_their_reasons(rt: HostRuntime) {
     let alloc = rt.alloc();
     let mut engine = opened(&rt, alloc);
     let number = engine
-        .add(verified(&rt, alloc, SUBMIT_42))
+        .add(verified(&rt, alloc, SUBMIT_42, 16, 2))
         .expect(&rt, "memory");
     let short = engine.run(number, &[0; 15]);
     let faults = [
