@@ -5,6 +5,7 @@ ghost use Rattle.std.specs.Io.KnownBytes.{Keeps};
 ghost use Rattle.rb_history.specs.RingModel.{IsRingSize, IsStartPosition};
 ghost use Rattle.rb_tape_commands.specs.inner.PayloadSteps.{IsWholeInput};
 
+use crate::cost_sizes::cost_with_sizes;
 use crate::progress::{Metered, Progress};
 use crate::reasons::{Seen, reason_of};
 use crate::refusal::{CommandRefusal, object_of};
@@ -17,8 +18,8 @@ use clap::Error;
 use clap::error::ErrorKind;
 use rb_io::{NotedReader, NotedWriter, write_whole};
 use rb_json::LineForm;
-use rb_loader::{Bounds, ProgramFault, cost, explain, explain_portable, read_all};
-use rb_run_commands::{JobsFault, TapeFile, check, check_portable, run, run_to_file};
+use rb_loader::{Bounds, ProgramFault, explain, explain_portable, read_all};
+use rb_run_commands::{JobsFault, JobsRequest, TapeFile, check, check_portable, run, run_to_file};
 use rb_script::{SimFault, line_reason, sim};
 use rb_tape_commands::{feed_buffered, tape_buffered};
 use std::alloc::Global;
@@ -147,18 +148,8 @@ where
     let mut input = NotedReader::new(input);
     let mut out = NotedWriter::new(out);
     let mut seen = Seen::default();
-    let progress = Progress::new(
-        rt,
-        asked.progress,
-        asked.request.jobs(),
-        taped_jobs(alloc, asked),
-    );
-    let mut told = Vec::new(alloc);
-    let answer = answer(
-        rt, alloc, asked, &progress, &mut input, &mut out, &mut told, &mut seen,
-    );
-    progress.end();
-    match and_told(answer, told.as_slice(), err) {
+    let answer = answer_watched(rt, alloc, asked, &mut input, &mut out, err, &mut seen);
+    match answer {
         Ok(None) => 0,
         Ok(Some(end)) => print_end(err, end, asked.request.form()),
         Err(refusal) => {
@@ -168,6 +159,32 @@ where
             tell_refusal(alloc, &refusal, asked, &seen, &mut out, err)
         }
     }
+}
+
+// Executes a command and reports its progress. Returns its result, once the text that it left besides its output is
+// written.
+fn answer_watched<T, F: Write + Send + Drop, R: Read, W: Write, E: Write>(
+    rt: &T,
+    alloc: Global,
+    asked: &CommandLine<'_>,
+    input: &mut R,
+    out: &mut W,
+    err: &mut E,
+    seen: &mut Seen,
+) -> Result<Option<(u64, u64)>, CommandRefusal>
+where
+    T: Threads + Wait + Sync + Files<File = F> + Clock + Eprint,
+{
+    let progress = Progress::new(
+        rt,
+        asked.progress,
+        asked.request.jobs(),
+        taped_jobs(alloc, asked),
+    );
+    let mut told = Vec::new(alloc);
+    let answer = answer(rt, alloc, asked, &progress, input, out, &mut told, seen);
+    progress.end();
+    and_told(answer, told.as_slice(), err)
 }
 
 // Returns a counter for the jobs of a run that writes a tape, if the run reports its progress and memory for the
@@ -283,11 +300,7 @@ where
             ..
         } => feed_metered(alloc, input, out, progress, size, start, retries),
         Subcommand::Tape { size, start, form } => {
-            let mut input = Metered::new(input, progress);
-            match tape_buffered(alloc, &mut input, out, size, start, form) {
-                Ok(()) => Ok(None),
-                Err(refusal) => Err(CommandRefusal::Tape(refusal)),
-            }
+            tape_metered(alloc, input, out, progress, size, start, form)
         }
         Subcommand::Check {
             bounds,
@@ -299,28 +312,60 @@ where
             form,
             portable,
         } => of_program(explained(alloc, input, out, bounds, form, portable)),
-        Subcommand::Cost { bounds, form, jobs } => {
-            of_program(cost(alloc, input, out, bounds, form, jobs))
-        }
-        Subcommand::Run { jobs, tape: None } => of_jobs(run(
-            rt, alloc, input, out, told, jobs, progress,
-        )),
-        Subcommand::Run {
-            jobs,
-            tape: Some(path),
-        } => {
-            let mut file = TapeFile { path, fault: None };
-            let answer = run_to_file(rt, alloc, input, out, told, jobs, &mut file, progress);
-            seen.file = file.fault;
+        Subcommand::Cost {
+            bounds,
+            form,
+            sizes,
+        } => of_program(cost_with_sizes(alloc, input, out, bounds, form, sizes)),
+        Subcommand::Run { jobs, tape } => {
+            let answer = match tape {
+                None => run(rt, alloc, input, out, told, jobs, progress),
+                Some(path) => run_taped(rt, alloc, input, out, told, jobs, path, progress, seen),
+            };
             of_jobs(answer)
         }
-        Subcommand::Sim { draw, form } => {
-            match sim_told(alloc, input, out, progress, draw, form, asked.why, seen) {
-                Ok(()) => Ok(None),
-                Err(fault) => Err(CommandRefusal::Sim(fault)),
-            }
-        }
+        Subcommand::Sim { draw, form } => of_sim(sim_told(
+            alloc, input, out, progress, draw, form, asked.why, seen,
+        )),
     }
+}
+
+// Prints the records of a tape, and reports the progress.
+fn tape_metered<T: Clock + Eprint, R: Read, W: Write>(
+    alloc: Global,
+    input: &mut R,
+    out: &mut W,
+    progress: &Progress<'_, T>,
+    size: u64,
+    start: u64,
+    form: LineForm,
+) -> Result<Option<(u64, u64)>, CommandRefusal> {
+    let mut input = Metered::new(input, progress);
+    match tape_buffered(alloc, &mut input, out, size, start, form) {
+        Ok(()) => Ok(None),
+        Err(refusal) => Err(CommandRefusal::Tape(refusal)),
+    }
+}
+
+// Runs jobs and writes their records to the file of this name. Stores what failed at the file.
+fn run_taped<T, F: Write + Send + Drop, R: Read, W: Write>(
+    rt: &T,
+    alloc: Global,
+    input: &mut R,
+    out: &mut W,
+    told: &mut Vec<u8>,
+    jobs: JobsRequest,
+    path: &str,
+    progress: &Progress<'_, T>,
+    seen: &mut Seen,
+) -> Result<(), JobsFault>
+where
+    T: Threads + Wait + Sync + Files<File = F> + Clock + Eprint,
+{
+    let mut file = TapeFile { path, fault: None };
+    let answer = run_to_file(rt, alloc, input, out, told, jobs, &mut file, progress);
+    seen.file = file.fault;
+    answer
 }
 
 // Writes the tape of the payloads, and reports the progress. Returns where the tape ends, or why it was refused.
@@ -355,6 +400,14 @@ fn of_jobs(answer: Result<(), JobsFault>) -> Result<Option<(u64, u64)>, CommandR
     match answer {
         Ok(()) => Ok(None),
         Err(fault) => Err(CommandRefusal::Jobs(fault)),
+    }
+}
+
+// Returns the result of a script.
+fn of_sim(answer: Result<(), SimFault>) -> Result<Option<(u64, u64)>, CommandRefusal> {
+    match answer {
+        Ok(()) => Ok(None),
+        Err(fault) => Err(CommandRefusal::Sim(fault)),
     }
 }
 

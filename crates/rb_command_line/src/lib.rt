@@ -5,6 +5,8 @@
 #![tactic(auto)]
 
 mod bounds;
+mod command_table;
+mod cost_sizes;
 mod dispatch;
 mod options;
 mod progress;
@@ -13,8 +15,8 @@ mod refusal;
 mod request;
 mod sim_objects;
 mod stream_command;
-mod stream_options;
 mod stream_request;
+mod stream_table;
 mod taped_jobs;
 mod terminals;
 

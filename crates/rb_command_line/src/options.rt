@@ -1,282 +1,109 @@
-//! The commands and options of the command line.
+//! The parser of the command line, built from the tables of its commands and their options.
 
-use crate::stream_options::stream;
+use crate::command_table::{COMMANDS, CommandRow, OptionRow, OptionShape};
 use clap::{Arg, ArgAction, Command};
 use rb_version::VERSION;
 use std::alloc::{AllocError, Global};
 
 /// Returns the commands with their options.
 pub(crate) fn program<'a>(alloc: Global) -> Result<Command<'a>, AllocError> {
-    let program = Command::new(alloc, "rbhost")
-        .version(VERSION)
-        .bin_name("rbhost")?
-        .about("A host for eBPF programs that write into BPF ring buffers")
-        .no_binary_name(true)
-        .subcommand_required(true);
-    let program = with(program, feed(alloc))?;
-    let program = with(program, tape(alloc))?;
-    let program = with(program, check(alloc))?;
-    let program = with(program, explain(alloc))?;
-    let program = with(program, cost(alloc))?;
-    let program = with(program, run(alloc))?;
-    let program = with(program, sim(alloc))?;
-    with(program, stream(alloc))
+    let mut program = bare_program(alloc)?;
+    for row in &COMMANDS {
+        program = with_command(alloc, program, row)?;
+    }
+    Ok(program)
 }
 
-/// Returns the command with this name.
+/// Returns the command with this name, or the program without commands if there is none.
 pub(crate) fn subcommand<'a>(alloc: Global, name: &str) -> Result<Command<'a>, AllocError> {
-    let bin_name = format!(in alloc; "rbhost {name}")?;
-    let command = match name {
-        "feed" => feed(alloc)?,
-        "tape" => tape(alloc)?,
-        "check" => check(alloc)?,
-        "explain" => explain(alloc)?,
-        "cost" => cost(alloc)?,
-        "run" => run(alloc)?,
-        "stream" => stream(alloc)?,
-        _ => sim(alloc)?,
-    };
-    command.bin_name(bin_name.as_str())
+    for row in &COMMANDS {
+        if row.name == name {
+            return named_command(alloc, row);
+        }
+    }
+    bare_program(alloc)
+}
+
+// Returns the program without its commands.
+fn bare_program<'a>(alloc: Global) -> Result<Command<'a>, AllocError> {
+    Command::new(alloc, "rbhost")
+        .version(VERSION)
+        .about("A host for eBPF programs that write into BPF ring buffers")
+        .no_binary_name(true)
+        .subcommand_required(true)
+        .bin_name("rbhost")
 }
 
 // Returns the program with one more command.
-fn with<'a>(
+fn with_command<'a>(
+    alloc: Global,
     program: Command<'a>,
-    command: Result<Command<'a>, AllocError>,
+    row: &CommandRow,
 ) -> Result<Command<'a>, AllocError> {
-    program.subcommand(command?)
+    program.subcommand(command(alloc, row)?)
 }
 
-fn feed<'a>(alloc: Global) -> Result<Command<'a>, AllocError> {
-    Command::new(alloc, "feed")
-        .about(
-            "Writes the tape of payloads, each read as a length in four bytes and that many bytes",
-        )
-        .after_help("Example: printf '\\001\\000\\000\\000*' | rbhost feed --size 4096")
-        .arg(size(alloc))?
-        .arg(start(alloc))?
-        .arg(retry(alloc))?
-        .arg(json(alloc))?
-        .arg(why(alloc))?
-        .arg(no_why(alloc)?)?
-        .arg(progress(alloc))?
-        .arg(file(alloc))
+// Returns the command of a row, which is called by the program's name and its own.
+fn named_command<'a>(alloc: Global, row: &CommandRow) -> Result<Command<'a>, AllocError> {
+    let name = row.name;
+    let bin_name = format!(in alloc; "rbhost {name}")?;
+    command(alloc, row)?.bin_name(bin_name.as_str())
 }
 
-fn tape<'a>(alloc: Global) -> Result<Command<'a>, AllocError> {
-    Command::new(alloc, "tape")
-        .about("Reads a tape, and prints a line for each of its records")
-        .after_help(
-            "Example: printf '\\001\\000\\000\\000*' | rbhost feed --size 4096 | rbhost tape --size 4096",
-        )
-        .arg(size(alloc))?
-        .arg(start(alloc))?
-        .arg(json(alloc))?
-        .arg(why(alloc))?
-        .arg(no_why(alloc)?)?
-        .arg(progress(alloc))?
-        .arg(file(alloc))
+// Returns the command of a row.
+fn command<'a>(alloc: Global, row: &CommandRow) -> Result<Command<'a>, AllocError> {
+    let mut command = Command::new(alloc, row.name)
+        .about(row.about)
+        .after_help(row.example);
+    for option in row.options {
+        command = with_option(alloc, command, option)?;
+    }
+    Ok(command)
 }
 
-fn check<'a>(alloc: Global) -> Result<Command<'a>, AllocError> {
-    Command::new(alloc, "check")
-        .about("Verifies a program, given as text in hex, and runs it once")
-        .after_help("Example: tools/bpf-hex examples/c/event.c | rbhost check")
-        .arg(ctx(alloc))?
-        .arg(rings(alloc))?
-        .arg(portable(alloc))?
-        .arg(json(alloc))?
-        .arg(why(alloc))?
-        .arg(no_why(alloc)?)?
-        .arg(file(alloc))
+// Returns a command with one more option.
+fn with_option<'a>(
+    alloc: Global,
+    command: Command<'a>,
+    row: &OptionRow,
+) -> Result<Command<'a>, AllocError> {
+    command.arg(argument(alloc, row)?)
 }
 
-fn explain<'a>(alloc: Global) -> Result<Command<'a>, AllocError> {
-    Command::new(alloc, "explain")
-        .about(
-            "Explains a program, given as text in hex: what is known before each instruction and what it can cost at most, or what is wrong and how to mend it",
-        )
-        .after_help("Example: tools/bpf-hex examples/c/event.c | rbhost explain")
-        .arg(ctx(alloc))?
-        .arg(rings(alloc))?
-        .arg(portable(alloc))?
-        .arg(json(alloc))?
-        .arg(why(alloc))?
-        .arg(no_why(alloc)?)?
-        .arg(file(alloc))
+// Returns the option of a row.
+fn argument<'a>(alloc: Global, row: &OptionRow) -> Result<Arg<'a>, AllocError> {
+    let argument = Arg::new(alloc, row.name).help(row.help);
+    match row.shape {
+        OptionShape::Flag => Ok(flag(argument, row.name)),
+        OptionShape::FlagWithout(other) => flag(argument, row.name).conflicts_with(other),
+        OptionShape::Value(value) => Ok(one_value(argument, row.name, value)),
+        OptionShape::Default(value, default) => {
+            Ok(one_value(argument, row.name, value).default_value(default))
+        }
+        OptionShape::ValueWith(value, other) => one_value(argument, row.name, value).requires_arg(
+            other,
+        ),
+        OptionShape::Required(value) => Ok(one_value(argument, row.name, value).required(true)),
+        OptionShape::Values(value) => Ok(values(argument, row.name, value)),
+        OptionShape::RequiredValues(value) => Ok(values(argument, row.name, value).required(true)),
+        OptionShape::Operand(value) => Ok(argument.value_name(value)),
+    }
 }
 
-fn cost<'a>(alloc: Global) -> Result<Command<'a>, AllocError> {
-    Command::new(alloc, "cost")
-        .about(
-            "Verifies a program, given as text in hex, and prints what it can cost at most: steps, calls, and records and bytes of each ring",
-        )
-        .after_help(
-            "Example: tools/bpf-hex examples/c/event.c | rbhost cost --workers 4 --behind 8",
-        )
-        .arg(ctx(alloc))?
-        .arg(rings(alloc))?
-        .arg(at_once(alloc)?)?
-        .arg(behind(alloc)?)?
-        .arg(json(alloc))?
-        .arg(why(alloc))?
-        .arg(no_why(alloc)?)?
-        .arg(file(alloc))
-}
-
-fn run<'a>(alloc: Global) -> Result<Command<'a>, AllocError> {
-    Command::new(alloc, "run")
-        .about(
-            "Verifies a program, given as text in hex, and runs it as jobs on threads over one ring",
-        )
-        .after_help(
-            "Example: rbhost run --workers 4 --jobs 100 --size 4096 < examples/submit_42.hex",
-        )
-        .arg(workers(alloc))?
-        .arg(jobs(alloc))?
-        .arg(size(alloc))?
-        .arg(start(alloc))?
-        .arg(tape_file(alloc))?
-        .arg(json(alloc))?
-        .arg(why(alloc))?
-        .arg(no_why(alloc)?)?
-        .arg(progress(alloc))?
-        .arg(file(alloc))
-}
-
-fn sim<'a>(alloc: Global) -> Result<Command<'a>, AllocError> {
-    Command::new(alloc, "sim")
-        .about("Runs a script of workers and rings in turns, without threads")
-        .after_help(
-            "Example: printf 'ring 4096 0\\nworker b7000000000000009500000000000000\\nw 0 2\\n' | rbhost sim",
-        )
-        .arg(draw(alloc))?
-        .arg(json(alloc))?
-        .arg(why(alloc))?
-        .arg(no_why(alloc)?)?
-        .arg(progress(alloc))?
-        .arg(file(alloc))
-}
-
-fn workers<'a>(alloc: Global) -> Arg<'a> {
-    option(alloc, "workers").value_name("W").required(true).help(
-        "How many workers there are, each on a thread of its own: 1 to 256",
-    )
-}
-
-fn at_once<'a>(alloc: Global) -> Result<Arg<'a>, AllocError> {
-    option(alloc, "workers")
-        .value_name("W")
-        .help("How many workers run the program at once, for the size of a ring: 1 to 256")
-        .requires_arg("behind")
-}
-
-fn behind<'a>(alloc: Global) -> Result<Arg<'a>, AllocError> {
-    option(alloc, "behind")
-        .value_name("J")
-        .help("How many finished jobs the consumer may be behind: 0 to 1000000")
-        .requires_arg("workers")
-}
-
-fn jobs<'a>(alloc: Global) -> Arg<'a> {
-    option(alloc, "jobs")
-        .value_name("J")
-        .required(true)
-        .help("How often each worker runs the program: 1 to 1000000")
-}
-
-fn tape_file<'a>(alloc: Global) -> Arg<'a> {
-    option(alloc, "tape").value_name("FILE").help(
-        "A file that the tape of all that the ring's consumer takes is written to",
-    )
-}
-
-fn ctx<'a>(alloc: Global) -> Arg<'a> {
-    option(alloc, "ctx")
-        .value_name("N")
-        .default_value("16")
-        .help("The length of the context in bytes, at most 65536; K is allowed, as in 1K")
-}
-
-fn rings<'a>(alloc: Global) -> Arg<'a> {
-    option(alloc, "rings")
-        .value_name("N")
-        .default_value("1")
-        .help("How many rings the program knows, at most 16")
-}
-
-fn size<'a>(alloc: Global) -> Arg<'a> {
-    option(alloc, "size").value_name("N").required(true).help(
-        "The ring's size in bytes: a power of two from 4096 to 67108864. K and M are allowed, as in 64K",
-    )
-}
-
-fn start<'a>(alloc: Global) -> Arg<'a> {
-    option(alloc, "start")
-        .value_name("P")
-        .default_value("0")
-        .help("The ring's first position: a multiple of 8")
-}
-
-fn retry<'a>(alloc: Global) -> Arg<'a> {
-    option(alloc, "retry")
-        .value_name("N")
-        .default_value("0")
-        .help("How often writing goes on after a write that failed, at most 100")
-}
-
-fn json<'a>(alloc: Global) -> Arg<'a> {
-    Arg::new(alloc, "json")
-        .long("json")
-        .action(ArgAction::SetTrue)
-        .help("Print an object of JSON in the place of each line")
-}
-
-fn why<'a>(alloc: Global) -> Arg<'a> {
-    Arg::new(alloc, "why")
-        .long("why")
-        .action(ArgAction::SetTrue)
-        .help(
-            "Print the reason of a refusal in front of it, as is done if standard error is a terminal",
-        )
-}
-
-fn no_why<'a>(alloc: Global) -> Result<Arg<'a>, AllocError> {
-    Arg::new(alloc, "no-why")
-        .long("no-why")
-        .action(ArgAction::SetTrue)
-        .help("Print no reason of a refusal")
-        .conflicts_with("why")
-}
-
-fn file<'a>(alloc: Global) -> Arg<'a> {
-    Arg::new(alloc, "file").value_name("FILE").help(
-        "The file to read; standard input if there is none or it is -",
-    )
-}
-
-fn progress<'a>(alloc: Global) -> Arg<'a> {
-    Arg::new(alloc, "progress")
-        .long("progress")
-        .action(ArgAction::SetTrue)
-        .help("Tell on standard error about once a second how far it is")
-}
-
-fn portable<'a>(alloc: Global) -> Arg<'a> {
-    Arg::new(alloc, "portable")
-        .long("portable")
-        .action(ArgAction::SetTrue)
-        .help("Print a line for each unit at which Linux refuses the program")
-}
-
-fn draw<'a>(alloc: Global) -> Arg<'a> {
-    Arg::new(alloc, "draw")
-        .long("draw")
-        .action(ArgAction::SetTrue)
-        .help("Draw each ring as a line behind each turn")
+// Returns an option without a value.
+fn flag<'a>(argument: Arg<'a>, name: &'a str) -> Arg<'a> {
+    argument.long(name).action(ArgAction::SetTrue)
 }
 
 // Returns an option with a value.
-fn option<'a>(alloc: Global, name: &'a str) -> Arg<'a> {
-    Arg::new(alloc, name).long(name).action(ArgAction::Set)
+fn one_value<'a>(argument: Arg<'a>, name: &'a str, value: &'a str) -> Arg<'a> {
+    argument.long(name).action(ArgAction::Set).value_name(value)
+}
+
+// Returns an option with a value that may be given several times.
+fn values<'a>(argument: Arg<'a>, name: &'a str, value: &'a str) -> Arg<'a> {
+    argument
+        .long(name)
+        .action(ArgAction::Append)
+        .value_name(value)
 }

@@ -9,6 +9,7 @@ use rb_program::DecodeKind;
 use rb_run_commands::TapeFileFault;
 use rb_tape::TapeKind;
 use std::alloc::{AllocError, Global};
+use std::fmt::Display;
 use std::io::Error;
 
 /// What was observed of a command's input and outputs.
@@ -72,41 +73,43 @@ fn input_reason(
     match cause {
         Cause::Text => text_reason(alloc, input, seen.front),
         Cause::Decode(DecodeKind::Length, _) => length_reason(alloc, input, seen.front),
-        Cause::Decode(kind, unit) => {
-            format!(in alloc; "unit {unit}: {kind}; {}", mending(request))
-        }
-        Cause::Shape(kind, unit) => {
-            format!(in alloc; "unit {unit}: {kind}; {}", mending(request))
-        }
-        Cause::Verify(rule, unit) => {
-            format!(in alloc;
-                "unit {unit} breaks rule V{rule}; {}{}",
-                mending(request),
-                fixed_bounds(request)
-            )
-        }
+        Cause::Decode(kind, unit) => unit_reason(alloc, unit, &kind, request),
+        Cause::Shape(kind, unit) => unit_reason(alloc, unit, &kind, request),
+        Cause::Verify(rule, unit) => rule_reason(alloc, rule, unit, request),
         Cause::Size => option_reason(alloc, "size", request.size(), SIZES),
         Cause::Start => option_reason(alloc, "start", request.start(), STARTS),
         Cause::Workers => option_reason(alloc, "workers", request.workers(), WORKERS),
-        Cause::Record(TapeKind::Truncated, offset) => format!(in alloc;
-            "the record behind {offset} bytes: {input} ends inside it"
-        ),
-        Cause::Record(kind, offset) => format!(in alloc;
-            "the record behind {offset} bytes: {}",
-            record_words(kind)
-        ),
+        Cause::Record(kind, offset) => record_reason(alloc, kind, offset, input),
         Cause::Fit(payload) => fit_reason(alloc, payload, request.size()),
-        Cause::Ends(payload) => format!(in alloc;
-            "{input} has {} bytes, and ends inside payload {payload} or the four bytes of its length",
-            seen.front.count
-        ),
-        Cause::Line(line) => match &seen.line {
-            Some(expected) => String::from_str(alloc, expected.as_str()),
-            None => format!(in alloc; "line {line} of the script"),
-        },
+        Cause::Ends(payload) => end_reason(alloc, payload, input, seen.front.count),
+        Cause::Line(line) => line_reason(alloc, line, &seen.line),
         Cause::Memory => memory_reason(alloc, request),
         Cause::Device => device_reason(alloc, request, input, seen),
     }
+}
+
+// Returns what is wrong with a unit of a program.
+fn unit_reason<K: Display>(
+    alloc: Global,
+    unit: u32,
+    kind: &K,
+    request: &Subcommand<'_>,
+) -> Result<String, AllocError> {
+    format!(in alloc; "unit {unit}: {kind}; {}", mending(request))
+}
+
+// Returns which rule a program breaks.
+fn rule_reason(
+    alloc: Global,
+    rule: u32,
+    unit: u32,
+    request: &Subcommand<'_>,
+) -> Result<String, AllocError> {
+    format!(in alloc;
+        "unit {unit} breaks rule V{rule}; {}{}",
+        mending(request),
+        fixed_bounds(request)
+    )
 }
 
 // Returns where the author of a program finds out more.
@@ -178,6 +181,39 @@ fn fit_reason(alloc: Global, payload: u64, size: u64) -> Result<String, AllocErr
     )
 }
 
+// Returns where the input ends inside a payload.
+fn end_reason(alloc: Global, payload: u64, input: &str, count: u64) -> Result<String, AllocError> {
+    format!(in alloc;
+        "{input} has {count} bytes, and ends inside payload {payload} or the four bytes of its length"
+    )
+}
+
+// Returns what was expected at a line of a script.
+fn line_reason(
+    alloc: Global,
+    line: usize,
+    expected: &Option<String>,
+) -> Result<String, AllocError> {
+    match expected {
+        Some(expected) => String::from_str(alloc, expected.as_str()),
+        None => format!(in alloc; "line {line} of the script"),
+    }
+}
+
+// Returns which record of a tape is wrong, and what is wrong with it.
+fn record_reason(
+    alloc: Global,
+    kind: TapeKind,
+    offset: u64,
+    input: &str,
+) -> Result<String, AllocError> {
+    if kind == TapeKind::Truncated {
+        return format!(in alloc; "the record behind {offset} bytes: {input} ends inside it");
+    }
+    let words = record_words(kind);
+    format!(in alloc; "the record behind {offset} bytes: {words}")
+}
+
 // Returns what is wrong with a record of a tape.
 fn record_words(kind: TapeKind) -> &'static str {
     match kind {
@@ -206,7 +242,7 @@ fn memory_reason(alloc: Global, request: &Subcommand<'_>) -> Result<String, Allo
     }
 }
 
-// Returns which operation failed on which file, with the system's message.
+// Returns which operation failed on which of the command's files.
 fn device_reason(
     alloc: Global,
     request: &Subcommand<'_>,
@@ -214,43 +250,38 @@ fn device_reason(
     seen: &Seen,
 ) -> Result<String, AllocError> {
     if let Some(error) = seen.opening {
-        let words = words_of(alloc, error)?;
-        return format!(in alloc; "cannot open {input}: {words}");
+        return failure(alloc, "open", input, error);
     }
     if let Some(fault) = seen.file {
         return file_reason(alloc, request.tape(), fault);
     }
     if let Some(error) = seen.reading {
-        let words = words_of(alloc, error)?;
-        return format!(in alloc; "cannot read {input}: {words}");
+        return failure(alloc, "read", input, error);
     }
     match seen.printing {
-        Some(error) => {
-            let words = words_of(alloc, error)?;
-            format!(in alloc; "cannot write to standard output: {words}")
-        }
-        None => String::from_str(
-            alloc,
-            "cannot write to standard output: it takes no more bytes",
-        ),
+        Some(error) => failure(alloc, "write to", "standard output", error),
+        None => full_reason(alloc, "standard output"),
     }
+}
+
+// Returns which operation failed on which file, with the system's message.
+fn failure(alloc: Global, operation: &str, name: &str, error: Error) -> Result<String, AllocError> {
+    let words = words_of(alloc, error)?;
+    format!(in alloc; "cannot {operation} {name}: {words}")
+}
+
+// Returns that a file accepts no more bytes.
+fn full_reason(alloc: Global, name: &str) -> Result<String, AllocError> {
+    format!(in alloc; "cannot write to {name}: it takes no more bytes")
 }
 
 // Returns what failed at the file of a tape.
 fn file_reason(alloc: Global, path: &str, fault: TapeFileFault) -> Result<String, AllocError> {
     let path = printable(alloc, path)?;
     match fault {
-        TapeFileFault::Opening(error) => {
-            let words = words_of(alloc, error)?;
-            format!(in alloc; "cannot open {path}: {words}")
-        }
-        TapeFileFault::Writing(Some(error)) => {
-            let words = words_of(alloc, error)?;
-            format!(in alloc; "cannot write to {path}: {words}")
-        }
-        TapeFileFault::Writing(None) => {
-            format!(in alloc; "cannot write to {path}: it takes no more bytes")
-        }
+        TapeFileFault::Opening(error) => failure(alloc, "open", path.as_str(), error),
+        TapeFileFault::Writing(Some(error)) => failure(alloc, "write to", path.as_str(), error),
+        TapeFileFault::Writing(None) => full_reason(alloc, path.as_str()),
     }
 }
 

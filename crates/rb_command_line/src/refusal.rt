@@ -8,30 +8,38 @@ use rb_script::SimFault;
 use rb_tape::TapeKind;
 use rb_tape_commands::{FeedFault, TapeRefusal};
 use std::alloc::{AllocError, Global};
-use thiserror::Error;
+use std::fmt;
+use std::fmt::{Debug, Display, Formatter};
 
 /// The refusal of any command, which is displayed like the command's own.
-#[derive(Clone, Copy, Debug, PartialEq, Eq, Error)]
+#[derive(Clone, Copy)]
 pub(crate) enum CommandRefusal {
     /// A refusal of `feed`.
-    #[error("{0}")]
     Feed(FeedFault),
     /// A refusal of `tape`.
-    #[error("{0}")]
     Tape(TapeRefusal),
     /// A refusal of `check`, `explain` or `cost`.
-    #[error("{0}")]
     Program(ProgramFault),
     /// A refusal of `run`.
-    #[error("{0}")]
     Jobs(JobsFault),
     /// A refusal of `sim`.
-    #[error("{0}")]
     Sim(SimFault),
 }
 
+impl Display for CommandRefusal {
+    fn fmt<W: fmt::Write>(&self, f: &mut Formatter<W>) -> fmt::Result {
+        match self {
+            CommandRefusal::Feed(fault) => Display::fmt(fault, f),
+            CommandRefusal::Tape(refusal) => Display::fmt(refusal, f),
+            CommandRefusal::Program(fault) => Display::fmt(fault, f),
+            CommandRefusal::Jobs(fault) => Display::fmt(fault, f),
+            CommandRefusal::Sim(fault) => Display::fmt(fault, f),
+        }
+    }
+}
+
 /// Why a command was refused, for any command.
-#[derive(Clone, Copy, Debug, PartialEq, Eq)]
+#[derive(Clone, Copy)]
 pub(crate) enum Cause {
     /// The program's text is not hex.
     Text,
@@ -145,13 +153,11 @@ fn push_fields(alloc: Global, line: &mut Vec<u8>, cause: Cause) -> Result<(), Al
     match cause {
         Cause::Text => line.extend_from_slice(b"\"text\""),
         Cause::Decode(kind, unit) => {
-            let kind = format!(in alloc; "\"decode\",\"kind\":\"{kind:?}\"")?;
-            line.extend_from_slice(kind.as_bytes())?;
+            push_kind(alloc, line, b"\"decode\"", &kind)?;
             push_field(line, b",\"unit\":", u64::from(unit))
         }
         Cause::Shape(kind, unit) => {
-            let kind = format!(in alloc; "\"shape\",\"kind\":\"{kind:?}\"")?;
-            line.extend_from_slice(kind.as_bytes())?;
+            push_kind(alloc, line, b"\"shape\"", &kind)?;
             push_field(line, b",\"unit\":", u64::from(unit))
         }
         Cause::Verify(rule, unit) => {
@@ -162,8 +168,7 @@ fn push_fields(alloc: Global, line: &mut Vec<u8>, cause: Cause) -> Result<(), Al
         Cause::Start => line.extend_from_slice(b"\"start\""),
         Cause::Workers => line.extend_from_slice(b"\"workers\""),
         Cause::Record(kind, offset) => {
-            let kind = format!(in alloc; "\"tape\",\"kind\":\"{kind:?}\"")?;
-            line.extend_from_slice(kind.as_bytes())?;
+            push_kind(alloc, line, b"\"tape\"", &kind)?;
             push_field(line, b",\"offset\":", offset)
         }
         Cause::Fit(payload) => push_field(line, b"\"fit\",\"payload\":", payload),
@@ -172,4 +177,16 @@ fn push_fields(alloc: Global, line: &mut Vec<u8>, cause: Cause) -> Result<(), Al
         Cause::Memory => line.extend_from_slice(b"\"memory\""),
         Cause::Device => line.extend_from_slice(b"\"device\""),
     }
+}
+
+// Appends this text, and then the kind as a field.
+fn push_kind<K: Debug>(
+    alloc: Global,
+    line: &mut Vec<u8>,
+    front: &[u8],
+    kind: &K,
+) -> Result<(), AllocError> {
+    let field = format!(in alloc; ",\"kind\":\"{kind:?}\"")?;
+    line.extend_from_slice(front)?;
+    line.extend_from_slice(field.as_bytes())
 }

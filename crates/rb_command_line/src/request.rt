@@ -5,6 +5,7 @@ ghost use Rattle.std.specs.Option.{SomeIff};
 ghost use Rattle.std.specs.Str.Parse.{IsNumeral, digits_value};
 
 use crate::bounds::{SIZES, STARTS};
+use crate::cost_sizes::SizesFor;
 use crate::options::{program, subcommand};
 use crate::terminals::Terminals;
 use clap::error::ErrorKind;
@@ -48,12 +49,12 @@ pub(crate) enum Subcommand<'a> {
         form: LineForm,
         portable: bool,
     },
-    /// Prints the most that a program can cost, verified within these bounds, in this form. If there are jobs, also
-    /// chooses the size of a ring for them.
+    /// Prints the most that a program can cost, verified within these bounds, in this form. If requested, also chooses
+    /// the sizes of rings.
     Cost {
         bounds: Bounds,
         form: LineForm,
-        jobs: Option<JobsAtOnce>,
+        sizes: Option<SizesFor>,
     },
     /// Verifies a program and runs it as these jobs on threads. If there is a file name, writes the records that the
     /// ring's consumer takes to that file as a tape.
@@ -176,66 +177,36 @@ pub(crate) fn parse<'a, S: AsStr>(
     terminals: Terminals,
 ) -> Result<ParsedCommand<'a>, Error> {
     let mut program = program(alloc)?;
-    let matches = program.try_get_matches_from_mut(words)?;
-    let Some((name, options)) = matches.subcommand() else {
-        return Err(program.error(ErrorKind::MissingSubcommand, "no command was given")?);
-    };
-    if name == "stream" {
-        let values = Values {
-            alloc,
-            command: name,
-            options,
-        };
-        return Ok(ParsedCommand::Stream(values.stream()?));
+    match program.try_get_matches_from_mut(words) {
+        Ok(matches) => parsed_command(alloc, &matches, terminals),
+        Err(error) => Err(error),
     }
-    let request = command_request(alloc, name, options)?;
-    let is_watched = terminals.err && !terminals.out;
-    Ok(ParsedCommand::Command(CommandLine {
-        request,
-        file: options.get_str("file").filter(|path| *path != "-"),
-        why: options.get_flag("why") || (terminals.err && !options.get_flag("no-why")),
-        progress: request.is_long() && (is_watched || options.get_flag("progress")),
-    }))
 }
 
-// Returns what the command with this name requests, by its options.
-fn command_request<'a>(
+// Returns the command of a parsed command line.
+fn parsed_command<'a>(
     alloc: Global,
-    name: &str,
-    options: &ArgMatches<'a>,
-) -> Result<Subcommand<'a>, Error> {
+    matches: &ArgMatches<'a>,
+    terminals: Terminals,
+) -> Result<ParsedCommand<'a>, Error> {
+    let Some((name, options)) = matches.subcommand() else {
+        return Err(missing_command(alloc)?);
+    };
     let values = Values {
         alloc,
         command: name,
         options,
     };
-    match name {
-        "feed" => values.feed(),
-        "tape" => values.tape(),
-        "check" => Ok(Subcommand::Check {
-            bounds: values.bounds()?,
-            form: values.form(),
-            portable: options.get_flag("portable"),
-        }),
-        "explain" => Ok(Subcommand::Explain {
-            bounds: values.bounds()?,
-            form: values.form(),
-            portable: options.get_flag("portable"),
-        }),
-        "cost" => Ok(Subcommand::Cost {
-            bounds: values.bounds()?,
-            form: values.form(),
-            jobs: values.jobs_at_once()?,
-        }),
-        "run" => Ok(Subcommand::Run {
-            jobs: values.jobs()?,
-            tape: options.get_str("tape"),
-        }),
-        _ => Ok(Subcommand::Sim {
-            draw: options.get_flag("draw"),
-            form: values.form(),
-        }),
+    if name == "stream" {
+        Ok(ParsedCommand::Stream(values.stream()?))
+    } else {
+        Ok(ParsedCommand::Command(values.command_line(terminals)?))
     }
+}
+
+// Returns the error for words without a command. The parser has one of its own, since it requires a command.
+fn missing_command(alloc: Global) -> Result<Error, AllocError> {
+    program(alloc)?.error(ErrorKind::MissingSubcommand, "no command was given")
 }
 
 // The values of a command's options.
@@ -248,6 +219,34 @@ pub(crate) struct Values<'v, 'a> {
 
 impl<'a> Values<'_, 'a> {
     ghost use Rattle.std.specs.Prelude.{◌≤◌, IfOk};
+
+    // Returns what is requested of a command other than `stream`.
+    fn command_line(&self, terminals: Terminals) -> Result<CommandLine<'a>, Error> {
+        let request = self.request()?;
+        let is_watched = terminals.err && !terminals.out;
+        Ok(CommandLine {
+            request,
+            file: self.options.get_str("file").filter(|path| *path != "-"),
+            why: self.has("why") || (terminals.err && !self.has("no-why")),
+            progress: request.is_long() && (is_watched || self.has("progress")),
+        })
+    }
+
+    // Returns the command with its own options.
+    fn request(&self) -> Result<Subcommand<'a>, Error> {
+        match self.command {
+            "feed" => self.feed(),
+            "tape" => self.tape(),
+            "check" => self.check(),
+            "explain" => self.explain(),
+            "cost" => self.cost(),
+            "run" => self.run(),
+            _ => Ok(Subcommand::Sim {
+                draw: self.has("draw"),
+                form: self.form(),
+            }),
+        }
+    }
 
     fn feed(&self) -> Result<Subcommand<'a>, Error> {
         Ok(Subcommand::Feed {
@@ -263,6 +262,37 @@ impl<'a> Values<'_, 'a> {
             size: self.size()?,
             start: self.start()?,
             form: self.form(),
+        })
+    }
+
+    fn check(&self) -> Result<Subcommand<'a>, Error> {
+        Ok(Subcommand::Check {
+            bounds: self.bounds()?,
+            form: self.form(),
+            portable: self.has("portable"),
+        })
+    }
+
+    fn explain(&self) -> Result<Subcommand<'a>, Error> {
+        Ok(Subcommand::Explain {
+            bounds: self.bounds()?,
+            form: self.form(),
+            portable: self.has("portable"),
+        })
+    }
+
+    fn cost(&self) -> Result<Subcommand<'a>, Error> {
+        Ok(Subcommand::Cost {
+            bounds: self.bounds()?,
+            form: self.form(),
+            sizes: self.sizes()?,
+        })
+    }
+
+    fn run(&self) -> Result<Subcommand<'a>, Error> {
+        Ok(Subcommand::Run {
+            jobs: self.jobs()?,
+            tape: self.options.get_str("tape"),
         })
     }
 
@@ -285,31 +315,37 @@ impl<'a> Values<'_, 'a> {
         })
     }
 
-    // Returns the jobs for which a ring's size is chosen, if that is requested. The two options are only accepted
-    // together.
-    fn jobs_at_once(&self) -> Result<Option<JobsAtOnce>, Error> {
+    // Returns what the sizes of rings are chosen for, if that is requested.
+    fn sizes(&self) -> Result<Option<SizesFor>, Error> {
         if self.options.get_str("workers").is_none() {
             return Ok(None);
         }
-        Ok(Some(JobsAtOnce {
-            workers: self.bounded("workers", 1, 256)?,
-            behind: self.bounded("behind", 0, 1_000_000)?,
-        }))
+        let workers = self.bounded("workers", 1, 256)?;
+        if self.options.get_str("behind").is_none() {
+            return Ok(Some(SizesFor::Turns(workers)));
+        }
+        let behind = self.bounded("behind", 0, 1_000_000)?;
+        Ok(Some(SizesFor::Jobs(JobsAtOnce { workers, behind })))
     }
 
     // Returns the form of the output.
     fn form(&self) -> LineForm {
-        if self.options.get_flag("json") {
+        if self.has("json") {
             LineForm::Json
         } else {
             LineForm::Words
         }
     }
 
+    // Returns whether an option without a value is given.
+    pub(crate) fn has(&self, name: &str) -> bool {
+        self.options.get_flag(name)
+    }
+
     fn size(&self) -> Result<u64, Error> {
         match self.options.get_str("size").and_then(byte_count) {
             Some(size) => Ok(size),
-            None => Err(self.refused("size", SIZES)?),
+            None => Err(self.refused("size", SIZES)),
         }
     }
 
@@ -321,7 +357,7 @@ impl<'a> Values<'_, 'a> {
     fn number(&self, name: &str, wanted: &str) -> Result<u64, Error> {
         match self.options.get_str(name).and_then(decimal) {
             Some(number) => Ok(number),
-            None => Err(self.refused(name, wanted)?),
+            None => Err(self.refused(name, wanted)),
         }
     }
 
@@ -338,26 +374,34 @@ impl<'a> Values<'_, 'a> {
             Some(number) if u64::from(least) <= number && number <= u64::from(most) => {
                 Ok(number as u32)
             }
-            _ => Err(self.out_of_bounds(name, least, most)?),
+            _ => Err(self.out_of_bounds(name, least, most)),
         }
     }
 
     // Returns the error for an option whose value is not a number within these bounds.
-    fn out_of_bounds(&self, name: &str, least: u32, most: u32) -> Result<Error, AllocError> {
-        let wanted = format!(in self.alloc; "a decimal number from {least} to {most}")?;
-        self.refused(name, wanted.as_str())
+    fn out_of_bounds(&self, name: &str, least: u32, most: u32) -> Error {
+        match format!(in self.alloc; "a decimal number from {least} to {most}") {
+            Ok(wanted) => self.refused(name, wanted.as_str()),
+            Err(error) => Error::from(error),
+        }
     }
 
     // Returns the error for an option whose value is not one that it accepts.
-    pub(crate) fn refused(&self, name: &str, wanted: &str) -> Result<Error, AllocError> {
+    pub(crate) fn refused(&self, name: &str, wanted: &str) -> Error {
         self.wrong(name, self.options.get_str(name).unwrap_or(""), wanted)
     }
 
     // Returns the error for this value of an option.
-    pub(crate) fn wrong(&self, name: &str, value: &str, wanted: &str) -> Result<Error, AllocError> {
+    pub(crate) fn wrong(&self, name: &str, value: &str, wanted: &str) -> Error {
+        match self.validation_error(name, value, wanted) {
+            Ok(error) => error,
+            Err(error) => Error::from(error),
+        }
+    }
+
+    fn validation_error(&self, name: &str, value: &str, wanted: &str) -> Result<Error, AllocError> {
         let message = format!(in self.alloc; "the value '{value}' of '--{name}' is not {wanted}")?;
-        let mut command = subcommand(self.alloc, self.command)?;
-        command.error(ErrorKind::ValueValidation, message.as_str())
+        subcommand(self.alloc, self.command)?.error(ErrorKind::ValueValidation, message.as_str())
     }
 }
 

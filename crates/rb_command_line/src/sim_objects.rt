@@ -32,17 +32,34 @@ pub(crate) fn print_objects<W: Write>(
 fn push_object(alloc: Global, objects: &mut Vec<u8>, line: &str) -> Result<(), AllocError> {
     let mut words = Words { rest: line };
     let kind = words.next();
-    objects.extend_from_slice(b"{\"")?;
-    objects.extend_from_slice(kind.as_bytes())?;
-    objects.extend_from_slice(b"\":")?;
+    push_all(objects, &[b"{\"", kind.as_bytes(), b"\":"])?;
     push_digits(objects, words.next())?;
-    match kind {
-        "take" => push_found(alloc, objects, &mut words)?,
-        "chapter" => push_named(objects, "number", words.next())?,
-        "draw" => push_drawing(objects, line)?,
-        _ => push_pairs(objects, &mut words)?,
-    }
+    push_rest(alloc, objects, kind, &mut words, line)?;
     objects.extend_from_slice(b"}\n")
+}
+
+// Appends the fields of a line of this kind after the first one.
+fn push_rest(
+    alloc: Global,
+    objects: &mut Vec<u8>,
+    kind: &str,
+    words: &mut Words<'_>,
+    line: &str,
+) -> Result<(), AllocError> {
+    match kind {
+        "take" => push_found(alloc, objects, words),
+        "chapter" => push_named(objects, "number", words.next()),
+        "draw" => push_drawing(objects, line),
+        _ => push_pairs(objects, words),
+    }
+}
+
+// Appends all of these bytes.
+fn push_all(objects: &mut Vec<u8>, parts: &[&[u8]]) -> Result<(), AllocError> {
+    for part in parts {
+        objects.extend_from_slice(part)?;
+    }
+    Ok(())
 }
 
 // The words of a line, followed by empty ones.
@@ -74,9 +91,7 @@ fn push_digits(objects: &mut Vec<u8>, digits: &str) -> Result<(), AllocError> {
 
 // Appends a field with a number.
 fn push_named(objects: &mut Vec<u8>, name: &str, digits: &str) -> Result<(), AllocError> {
-    objects.extend_from_slice(b",\"")?;
-    objects.extend_from_slice(name.as_bytes())?;
-    objects.extend_from_slice(b"\":")?;
+    push_all(objects, &[b",\"", name.as_bytes(), b"\":"])?;
     push_digits(objects, digits)
 }
 
@@ -100,21 +115,29 @@ fn push_found(
 ) -> Result<(), AllocError> {
     for _ in 0..words.rest.len() {
         let name = words.next();
-        match name {
-            "" => break,
-            "busy" | "empty" => {
-                objects.extend_from_slice(b",\"found\":\"")?;
-                objects.extend_from_slice(name.as_bytes())?;
-                objects.extend_from_slice(b"\"")?;
-            }
-            "len" => {
-                push_named(objects, name, words.next())?;
-                push_bytes(alloc, objects, words.next())?;
-            }
-            _ => push_named(objects, name, words.next())?,
+        if name.is_empty() {
+            break;
         }
+        push_found_field(alloc, objects, name, words)?;
     }
     Ok(())
+}
+
+// Appends the field of what a take found that has this name.
+fn push_found_field(
+    alloc: Global,
+    objects: &mut Vec<u8>,
+    name: &str,
+    words: &mut Words<'_>,
+) -> Result<(), AllocError> {
+    if name == "busy" || name == "empty" {
+        return push_all(objects, &[b",\"found\":\"", name.as_bytes(), b"\""]);
+    }
+    push_named(objects, name, words.next())?;
+    if name != "len" {
+        return Ok(());
+    }
+    push_bytes(alloc, objects, words.next())
 }
 
 // Appends whether a record was discarded, and the bytes of one that was not.
@@ -136,30 +159,45 @@ fn push_drawing(objects: &mut Vec<u8>, line: &str) -> Result<(), AllocError> {
     for part in line.split(" | ").skip(1) {
         let mut words = Words { rest: part };
         let name = words.next();
-        let is_record = matches!(name, "busy" | "waiting" | "discarded");
-        if is_record {
-            objects.extend_from_slice(if records == 0 {
-                b",\"records\":["
-            } else {
-                b","
-            })?;
+        if matches!(name, "busy" | "waiting" | "discarded") {
+            push_record(objects, records == 0, name, &mut words)?;
             records = records.saturating_add(1);
-            objects.extend_from_slice(b"{\"status\":\"")?;
-            objects.extend_from_slice(name.as_bytes())?;
-            objects.extend_from_slice(b"\"")?;
-            push_named(objects, "bytes", words.next())?;
-            push_pairs(objects, &mut words)?;
-            objects.extend_from_slice(b"}")?;
         } else {
-            if name == "producer" {
-                objects.extend_from_slice(if records == 0 {
-                    b",\"records\":[]"
-                } else {
-                    b"]"
-                })?;
-            }
-            push_named(objects, name, words.next())?;
+            push_position(objects, records == 0, name, &mut words)?;
         }
     }
     Ok(())
+}
+
+// Appends a record of a drawing.
+fn push_record(
+    objects: &mut Vec<u8>,
+    is_first: bool,
+    status: &str,
+    words: &mut Words<'_>,
+) -> Result<(), AllocError> {
+    let before: &[u8] = if is_first { b",\"records\":[" } else { b"," };
+    push_all(
+        objects,
+        &[before, b"{\"status\":\"", status.as_bytes(), b"\""],
+    )?;
+    push_named(objects, "bytes", words.next())?;
+    push_pairs(objects, words)?;
+    objects.extend_from_slice(b"}")
+}
+
+// Appends a position or a number of a drawing. The producer position ends the list of records.
+fn push_position(
+    objects: &mut Vec<u8>,
+    is_empty: bool,
+    name: &str,
+    words: &mut Words<'_>,
+) -> Result<(), AllocError> {
+    let before: &[u8] = match name {
+        "producer" if is_empty => b",\"records\":[]",
+        "producer" => b"]",
+        _ => b"",
+    };
+    objects.extend_from_slice(before)?;
+    push_named(objects, name, words.next())
 }

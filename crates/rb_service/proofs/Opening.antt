@@ -1,15 +1,19 @@
 -- Rings that were opened one after another.
-use Rattle.std.proofs.Common.{◌≡◌, ℕ, false, List, [], ◌∷◌, refl, sym, subst, arith}
+use Rattle.std.proofs.Common.{◌≡◌, ℕ, zero, suc, ◌+◌, false, List, [], ◌∷◌, refl, sym, subst, arith}
 use Rattle.std.specs.Prelude.{All}
-use Rattle.std.proofs.lemmas.List.Elements.{All-nil}
+use Rattle.std.specs.List.{AllZip}
+use Rattle.std.proofs.lemmas.List.Elements.{All-cons, All-nil}
+use Rattle.atomic_table.specs.Seated.{TableId}
 use Rattle.rb_history.specs.RingModel.{IsStartPosition}
 use Rattle.rb_chapter_ring.specs.Chapters.{empty_chapter}
 use Rattle.rb_ledger.specs.ChapterSeats.{fresh_chapter_consumer}
-use Rattle.rb_ledger.specs.Seats.{fresh_book, fresh_seats}
+use Rattle.rb_ledger.specs.Seats.{fresh_book, fresh_seat, fresh_seats}
 use Rattle.rb_workers.specs.ChapterSizes.{margin_of, room_of}
 use Rattle.rb_workers.specs.declared.opened.Opened.{Opened}
 use Rattle.rb_workers.specs.Opened.{AreOpened, IsOpened}
+use Rattle.rb_workers.specs.SeatRows.{seat_rows}
 use Rattle.rb_workers.proofs.Numbered.{seats_length}
+use Rattle.rb_waiting.specs.NoneRefused.{HasNotAsked}
 use Rattle.rb_service.specs.Rings.{IsFreshFor}
 use Rattle.rb_service.specs.declared.rings.RingPlan.{RingPlan}
 
@@ -38,3 +42,19 @@ all_opened position workers [] all = All-nil (IsOpened position 0)
 all_opened position workers (o ∷ more) all =
     let first : IsOpened position workers o = all 0 o (omega arith) in
     subst (λ n. All (IsOpened position n) (o ∷ more)) (sym (seats_length position workers o first)) all
+
+-- ---- seats of rings that were just opened
+
+fresh_unasked : (tag : ℕ) (ring : TableId) (room size start workers first n : ℕ) → All HasNotAsked (fresh_seats tag ring room (fresh_book size start workers) first n)
+fresh_unasked tag ring room size start workers first zero = All-nil HasNotAsked
+fresh_unasked tag ring room size start workers first (suc n) =
+    All-cons HasNotAsked (fresh_seat tag ring room first (fresh_book size start workers)) (fresh_seats tag ring room (fresh_book size start workers) (first + 1) n) refl (fresh_unasked tag ring room size start workers (first + 1) n)
+
+pub all_unasked : {S : Type 0} (workers : ℕ) (plans : List (RingPlan S)) (opened : List (Opened S)) → AllZip (IsFreshFor workers) plans opened → All (All HasNotAsked) (seat_rows opened)
+all_unasked workers [] [] fresh = All-nil (All HasNotAsked)
+all_unasked workers (p ∷ plans) (o ∷ opened) fresh =
+    All-cons (All HasNotAsked) o.seats.items (seat_rows opened)
+    (subst (All HasNotAsked) (sym fresh.0.seats_are) (fresh_unasked o.ring.tag o.ring.ring (room_of p.size) p.size 0 workers 0 workers))
+    (all_unasked workers plans opened fresh.1)
+all_unasked workers [] (o ∷ opened) fresh = absurd fresh
+all_unasked workers (p ∷ plans) [] fresh = absurd fresh

@@ -8,7 +8,7 @@ ghost use Rattle.rb_service.specs.Outputs.{output_position};
 
 use crate::options::{NamedRing, StreamOptions};
 use crate::outputs::RingOutput;
-use crate::refusal::{StreamRefusal, check_options};
+use crate::refusal::{StreamRefusal, check_options, refusal_of};
 use crate::report::report_on;
 use crate::rings::RingPlan;
 use crate::service::{ServiceRequest, serve};
@@ -155,11 +155,12 @@ fn stream_from<
     let request = ServiceRequest {
         workers: options.workers,
         late: options.late,
+        full: options.full,
         results: options.results,
     };
     match serve(rt, alloc, programs, &mut source, plans, request) {
         Ok(report) => report_on(alloc, options, report, source.counts(), printed),
-        Err(fault) => Err(StreamRefusal::Service(fault)),
+        Err(fault) => Err(refusal_of(options, fault)),
     }
 }
 

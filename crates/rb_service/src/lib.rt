@@ -7,6 +7,7 @@
 
 mod command;
 mod counters;
+mod opened_run;
 mod options;
 mod outputs;
 mod refusal;
@@ -20,4 +21,4 @@ pub use options::{NamedRing, StreamOptions};
 pub use outputs::RingOutput;
 pub use refusal::StreamRefusal;
 pub use rings::RingPlan;
-pub use service::{ServiceFault, ServiceRequest, serve};
+pub use service::{Full, ServiceFault, ServiceRequest, serve};

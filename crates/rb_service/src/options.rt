@@ -1,5 +1,6 @@
 //! The options of a stream.
 
+use crate::service::Full;
 use rb_source::{Form, Framing};
 use rb_stream::Late;
 
@@ -32,6 +33,8 @@ pub struct StreamOptions<'a> {
     pub from: Option<&'a str>,
     /// What happens to contexts when the queues of all workers are full.
     pub late: Late,
+    /// What happens to records for which a ring has no room.
+    pub full: Full,
     /// Results below this bound are counted individually.
     pub results: u32,
 }

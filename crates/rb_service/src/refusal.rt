@@ -2,7 +2,7 @@
 
 ghost use Rattle.std.specs.Prelude.{◌≡◌, ◌↔◌, All, IfErr, IfNone, IfSome, IsTrue, OnOk};
 ghost use Rattle.rb_history.specs.RingModel.{IsRingSize};
-ghost use Rattle.rb_service.specs.Command.{HasContexts, IsAllowed, IsRightRefusal, IsWrongFirst};
+ghost use Rattle.rb_service.specs.Command.{HasContexts, IsAllowed, IsLater, IsRightRefusal, IsWrongFirst};
 
 use crate::options::{NamedRing, StreamOptions};
 use crate::service::ServiceFault;
@@ -39,6 +39,13 @@ pub enum StreamRefusal<'a> {
     /// The tape of this ring was not written completely.
     #[error("tape of ring {0}")]
     Tape(&'a str),
+    /// Workers are to wait for room, and the ring of this name is the first that has no room for one context of every
+    /// worker. The number is the size of the smallest ring that has.
+    #[error("size of ring {0}: one context of every worker needs {1}")]
+    Small(&'a str, u64),
+    /// The same, and no ring has room for one context of every worker.
+    #[error("size of ring {0}: one context of every worker fits no ring")]
+    NoneFits(&'a str),
     /// The stream did not start, or it stopped.
     #[error("{0}")]
     Service(ServiceFault),
@@ -84,6 +91,22 @@ fn find_wrong<'a>(rings: &[NamedRing<'a>]) -> Option<NamedRing<'a>>
         }
     }
     None
+}
+
+/// Returns the refusal of a service with this fault. If a ring is too small, the refusal has the ring's name.
+pub(crate) fn refusal_of<'a>(options: &StreamOptions<'a>, fault: ServiceFault) -> StreamRefusal<'a>
+    ensures later { IsLater result }
+{
+    let ServiceFault::TooSmall(small) = fault else {
+        return StreamRefusal::Service(fault);
+    };
+    let Some(ring) = options.rings.get(small.ring) else {
+        return StreamRefusal::Service(fault);
+    };
+    match small.least {
+        Some(least) => StreamRefusal::Small(ring.name, least),
+        None => StreamRefusal::NoneFits(ring.name),
+    }
 }
 
 /// Returns the first refusal that follows from the options alone: of the contexts, of the rings' sizes in order, or of

@@ -1,23 +1,37 @@
 //! A stream over rings that are opened for it.
 
-ghost use Rattle.std.specs.Prelude.{◌≡◌, ◌≢◌, ◌↔◌, ◌+◌, ◌-◌, ◌<◌, ◌^◌, ℕ, All, IfErr, IfOk, IsErrOf, false, true, vec_len};
+ghost use Rattle.std.specs.Prelude.{◌≡◌, ◌≢◌, ◌↔◌, ◌+◌, ◌-◌, ◌≤◌, ◌<◌, ◌^◌, ℕ, All, IfErr, IfOk, IsErrOf, false, true, vec_len};
 ghost use Rattle.rb_history.specs.RingModel.{IsRingSize, IsWorkerCount};
 ghost use Rattle.rb_workers.specs.Rest.{LeavesNothing};
 ghost use Rattle.rb_stream.specs.Refusals.{has_other_length, has_unknown_ring};
 ghost use Rattle.rb_stream.specs.Streamed.{EndsSource};
+ghost use Rattle.rb_waiting.specs.NoneRefused.{RefusesNoRecord, StaysLow};
+ghost use Rattle.rb_waiting.specs.declared.plan.SmallRing.{SmallRing as SmallRingValue};
+ghost use Rattle.rb_service.specs.Faults.{IsRightFault, IsTooSmallFor};
 ghost use Rattle.rb_service.specs.Rings.{IsFirstWrong};
-ghost use Rattle.rb_service.specs.Service.{Serves, reported_fault};
-ghost use Rattle.rb_service.specs.declared.service.ServiceFault.TheVariants.{ContextLength, Memory, NoRing, Size, UnknownRing, Workers};
+ghost use Rattle.rb_service.specs.Service.{Serves};
+ghost use Rattle.rb_service.specs.declared.service.ServiceFault.TheVariants.{ContextLength, FewerRings, Memory, NoRing, Size, TooSmall, UnknownRing, Workers};
 
+use crate::opened_run::run_opened;
 use crate::rings::{PlanFault, RingPlan, check_plans, open_rings};
 use rb_source::Source;
-use rb_stream::{Late, StreamFault, StreamReport, run_stream};
+use rb_stream::{Late, StreamReport};
 use rb_verifier::Verified;
+use rb_waiting::SmallRing;
 use rb_workers::Sink;
 use std::alloc::Global;
 use std::sync::Wait;
 use std::thread::Threads;
 use thiserror::Error;
+
+/// What happens to records for which a ring has no room.
+#[derive(Clone, Copy, Debug, PartialEq, Eq)]
+pub enum Full {
+    /// There are none: before a worker runs contexts, it waits until each ring has room for all their records.
+    Wait,
+    /// The ring refuses them.
+    Refuse,
+}
 
 /// How a service runs its programs.
 #[derive(Clone, Copy, Debug, PartialEq, Eq)]
@@ -26,6 +40,8 @@ pub struct ServiceRequest {
     pub workers: u32,
     /// What happens to contexts when the queues of all workers are full.
     pub late: Late,
+    /// What happens to records for which a ring has no room.
+    pub full: Full,
     /// Results below this bound are counted individually.
     pub results: u32,
 }
@@ -48,6 +64,12 @@ pub enum ServiceFault {
     /// There is no ring. Nothing was read.
     #[error("there is no ring")]
     NoRing,
+    /// Workers are to wait for room, and a program was verified for fewer rings than there are. Nothing was read.
+    #[error("a program knows fewer rings than there are")]
+    FewerRings,
+    /// Workers are to wait for room, and a ring has no room for one context of every worker. Nothing was read.
+    #[error("a ring is too small for one context of every worker")]
+    TooSmall(SmallRing),
     /// Memory to start or to continue could not be allocated.
     #[error("memory")]
     Memory,
@@ -57,11 +79,15 @@ pub enum ServiceFault {
 /// once the source has ended or failed. Each ring's records go to its sink. Every context that the source gave was run
 /// by every program or dropped.
 ///
+/// If workers wait for room, no seat and no history of a ring has a refusal, provided that the ring's producer position
+/// stays at least the ring's size below 2^62 (`Closing::producer` returns it).
+///
 /// # Errors
 ///
-/// Returns `Size` for the first ring whose size is wrong, or else `Workers`, before any ring is opened. Returns
-/// `UnknownRing`, `ContextLength` and `NoRing`, in this order, before anything is read. Returns `Memory` if memory to
-/// start or to continue can't be allocated; what was written to the sinks is lost.
+/// Returns `Size` for the first ring whose size is wrong, or else `Workers`, before any ring is opened. If workers wait
+/// for room, returns `FewerRings`, or else `TooSmall` for the first ring that has no room for one context of every
+/// worker. Returns `UnknownRing`, `ContextLength` and `NoRing`, in this order, before anything is read. Returns `Memory`
+/// if memory to start or to continue can't be allocated; what was written to the sinks is lost.
 pub fn serve<T: Threads + Wait + Sync, I: Source + Send, S: Sink + Send + Drop>(
     rt: &T,
     alloc: Global,
@@ -75,8 +101,11 @@ pub fn serve<T: Threads + Wait + Sync, I: Source + Send, S: Sink + Send + Drop>(
     ensures workers { IsErrOf result Workers ↔ (All (λ p. IsRingSize p.size) plans.items × ¬ IsWorkerCount request.workers) }
     ensures unknown_ring { IsErrOf result UnknownRing → has_unknown_ring (vec_len plans) programs.now ≡ true }
     ensures context_length { IsErrOf result ContextLength → (has_unknown_ring (vec_len plans) programs.now ≡ false) × (has_other_length (I.ctx_len_of source.old) programs.now ≡ true) }
+    ensures fewer_rings { IsErrOf result FewerRings → (request.full ≡ Full.Wait) × ¬ All (λ p. vec_len plans ≤ p.rings) programs.now }
+    ensures too_small { (small : SmallRingValue) → IsErrOf result (TooSmall small) → (request.full ≡ Full.Wait) × IsTooSmallFor request.workers plans.items programs.now small }
     ensures nothing_read { IfErr result (λ fault. fault ≢ Memory → source.new ≡ source.old) }
     ensures served { IfOk result (Serves S.position_of S.takes I.gives plans.items programs.now request source.old source.new) }
+    ensures none_refused { IfOk result (λ r. request.full ≡ Full.Wait → All StaysLow r.rings.items → All RefusesNoRecord r.rings.items) }
     ensures end { IfOk result (λ r. EndsSource I.is_over I.fails source.new r.end) }
     ensures adds_up { IfOk result (λ r. r.contexts < 2 ^ 64 - 1 → r.contexts ≡ r.ran + r.dropped) }
     ensures no_strays { IfOk result (λ r. r.strays ≡ 0) }
@@ -101,12 +130,10 @@ fn serve_planned<T: Threads + Wait + Sync, I: Source + Send, S: Sink + Send + Dr
     requires begins { All (λ p. S.position_of p.sink ≡ 0) plans.items }
     requires sizes { All (λ p. IsRingSize p.size) plans.items }
     requires workers { IsWorkerCount request.workers }
-    ensures no_size { (number : ℕ) → ¬ IsErrOf result (Size number) }
-    ensures no_workers { ¬ IsErrOf result Workers }
-    ensures unknown_ring { IsErrOf result UnknownRing → has_unknown_ring (vec_len plans) programs.now ≡ true }
-    ensures context_length { IsErrOf result ContextLength → (has_unknown_ring (vec_len plans) programs.now ≡ false) × (has_other_length (I.ctx_len_of source.old) programs.now ≡ true) }
+    ensures fault { IfErr result (IsRightFault (vec_len plans) programs.now (I.ctx_len_of source.old) request.full (IsTooSmallFor request.workers plans.items programs.now)) }
     ensures nothing_read { IfErr result (λ fault. fault ≢ Memory → source.new ≡ source.old) }
     ensures served { IfOk result (Serves S.position_of S.takes I.gives plans.items programs.now request source.old source.new) }
+    ensures none_refused { IfOk result (λ r. request.full ≡ Full.Wait → All StaysLow r.rings.items → All RefusesNoRecord r.rings.items) }
     ensures end { IfOk result (λ r. EndsSource I.is_over I.fails source.new r.end) }
     ensures adds_up { IfOk result (λ r. r.contexts < 2 ^ 64 - 1 → r.contexts ≡ r.ran + r.dropped) }
     ensures no_strays { IfOk result (λ r. r.strays ≡ 0) }
@@ -115,28 +142,8 @@ fn serve_planned<T: Threads + Wait + Sync, I: Source + Send, S: Sink + Send + Dr
     let Ok(opened) = open_rings(rt, alloc, plans, request.workers) else {
         return Err(ServiceFault::Memory);
     };
-    match run_stream(
-        rt,
-        alloc,
-        opened,
-        programs,
-        source,
-        request.late,
-        request.results,
-    ) {
+    match run_opened(rt, alloc, programs, source, opened, request) {
         Ok(report) => Ok(report),
-        Err(stop) => Err(fault_of(stop.fault)),
-    }
-}
-
-// Returns the fault of a service whose stream stopped for this one.
-fn fault_of(fault: StreamFault) -> ServiceFault
-    ensures value { result ≡ reported_fault fault }
-{
-    match fault {
-        StreamFault::UnknownRing => ServiceFault::UnknownRing,
-        StreamFault::ContextLength => ServiceFault::ContextLength,
-        StreamFault::NoWorker => ServiceFault::NoRing,
-        StreamFault::Memory => ServiceFault::Memory,
+        Err(fault) => Err(fault),
     }
 }

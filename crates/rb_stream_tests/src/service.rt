@@ -3,7 +3,7 @@
 ghost use Rattle.std.specs.Prelude.{◌≡◌, All};
 
 use super::given::{EventSum, OUTPUT_CONTEXT, contexts, same, verified};
-use rb_service::{RingPlan, ServiceRequest, counters_text, serve};
+use rb_service::{Full, RingPlan, ServiceRequest, counters_text, serve};
 use rb_source::{ContextCounts, ListSource};
 use rb_stream::{Late, StreamReport};
 use std::alloc::Global;
@@ -32,6 +32,7 @@ fn three_events<R: Threads + Wait + Sync + Abort>(rt: &R, alloc: Global) -> Stre
     let request = ServiceRequest {
         workers: 1,
         late: Late::Block,
+        full: Full::Wait,
         results: 16,
     };
     match serve(rt, alloc, &programs, &mut source, plans, request) {

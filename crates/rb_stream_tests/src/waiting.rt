@@ -85,3 +85,27 @@ fn a_ring_that_is_too_small_is_reported(rt: HostRuntime) {
         &Some(TurnFault::TooSmall(small)),
     );
 }
+
+// Returns eight programs for each of two rings.
+fn many_programs<A: Abort>(rt: &A, alloc: Global) -> Vec<Verified> {
+    let mut all = Vec::new(alloc);
+    for _ in 0..8 {
+        let first = verified(rt, alloc, OUTPUT_CONTEXT, 16, 2);
+        let second = verified(rt, alloc, OUTPUT_TO_SECOND, 16, 2);
+        all.push(first).expect(rt, "memory");
+        all.push(second).expect(rt, "memory");
+    }
+    all
+}
+
+#[test]
+fn nothing_is_refused_to_many_workers(rt: HostRuntime) {
+    let alloc = rt.alloc();
+    let programs = many_programs(&rt, alloc);
+    let all = contexts(&rt, alloc, 1_500);
+    let mut source = ListSource::new(&all, 16);
+    let rings = two_rings(&rt, alloc, 65_536, 64, 5);
+    let (report, turn) = waited(&rt, alloc, rings, &programs, &mut source);
+    same(&rt, &(report.ran, report.unlogged, turn), &(1_500, 0, 2));
+    same(&rt, &counted(&report), &(0, 24_000));
+}

@@ -1,11 +1,11 @@
 -- Looks at the rings, and turns.
-use Rattle.std.proofs.Common.{◌≡◌, ℕ, zero, suc, ◌+◌, ◌-◌, ◌<◌, ◌≤◌, true, false, List, [], ◌∷◌, ◌++◌, length, get_or, map, refl, sym, ap, ◌∙◌, subst, append-nil, append_assoc, arith, drop, set, take, None, ⊎_elim}
+use Rattle.std.proofs.Common.{◌≡◌, ℕ, zero, suc, ◌+◌, ◌-◌, ◌<◌, ◌≤◌, true, List, [], ◌∷◌, ◌++◌, length, get_or, refl, sym, ap, ◌∙◌, subst, append-nil, append_assoc, arith, drop, set, take, None, ⊎_elim}
 use Rattle.std.proofs.Math.Seq.{take-append_seam}
 use Rattle.std.proofs.lemmas.Bool.{cases_lt}
 use Rattle.std.proofs.lemmas.List.{get_or-set_other, get_or-set_same, get_or_default, length-drop, length-take-le, take-append-drop, take-take}
 use Rattle.std.proofs.lemmas.List.Concat.{flat_map-append}
 use Rattle.std.proofs.lemmas.List.FromFn.{map-range_with_len_more}
-use Rattle.std.specs.List.{AllZip, flat_map}
+use Rattle.std.specs.List.{AllZip}
 use Rattle.rb_verifier.specs.Subject.{Subject}
 use Rattle.rb_history.specs.declared.notices_and_queries.TheConstants.{AVAIL_DATA}
 use Rattle.rb_history.specs.NoticesAndQueries.{query_answer}
@@ -19,7 +19,7 @@ use Rattle.rb_ledger.proofs.Histories.{goes-further}
 use Rattle.rb_jobs.specs.SeatHelpers.{AtRings, IsAt}
 use Rattle.rb_jobs.proofs.Lists.{zip_at, zip_length}
 use Rattle.rb_jobs.proofs.OneSeat.{seat_is}
-use Rattle.rb_stream_worker.specs.Tasks.{StreamTask, TaskRun, tasks_of, tasks_over}
+use Rattle.rb_stream_worker.specs.Tasks.{StreamTask, tasks_of, tasks_over}
 use Rattle.rb_stream_worker.specs.Turns.{FindsRoom, FindsRoomInEach, RunsTurn, SeesMore}
 use Rattle.rb_stream_worker.specs.inner.Looks.{LooksAt}
 use Rattle.rb_stream_worker.specs.Results.{raised}

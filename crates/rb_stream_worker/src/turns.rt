@@ -10,13 +10,36 @@ use crate::stream_worker::StreamWorker;
 use crate::when_full::{Turns, WhenFull};
 use rb_jobs::{JobRunner, OpenGate, Stock};
 use rb_source::Piece;
+use rb_verifier::Verified;
 use std::mem;
 use std::sync::Wait;
 
 impl<'w, R: Wait, K: Stock> StreamWorker<'w, R, K> {
-    // Runs every program over the contexts of a piece from number `from` up to but excluding number `to`, at once.
-    fn run_at_once(&mut self, piece: &Piece, from: usize, to: usize)
+    // Returns a runner without seats.
+    fn bare_runner<'j>(&self) -> JobRunner<'w, 'j, R, OpenGate, K> {
+        JobRunner::new(
+            self.rt,
+            self.alloc,
+            &[],
+            Vec::new(self.alloc),
+            &OpenGate,
+            self.stock,
+            0,
+        )
+    }
+
+    // Runs every program over the contexts of a piece from number `from` up to but excluding number `to`, at once. The
+    // runner has the worker's seats meanwhile.
+    fn run_at_once<'j>(
+        &mut self,
+        runner: &mut JobRunner<'w, 'j, R, OpenGate, K>,
+        programs: &'j [Verified],
+        piece: &'j Piece,
+        from: usize,
+        to: usize,
+    )
         requires ready { IsReadyWorker self.old }
+        requires programs { self.old.programs.now ≡ programs.now }
         requires length { piece.now.ctx_len ≡ self.old.ctx_len }
         requires part { (from ≤ to) × (to ≤ length piece.now.contexts) }
         ensures ready { IsReadyWorker self.new }
@@ -24,26 +47,32 @@ impl<'w, R: Wait, K: Stock> StreamWorker<'w, R, K> {
         ensures ran { RunsContexts Refuse self.old.number self.old.programs.now (drop from (take to piece.now.contexts)) self.old.seats.items self.new.seats.items self.old.counts self.new.counts }
     {
         let seats = mem::replace(&mut self.seats, Vec::new(self.alloc));
-        let mut runner = JobRunner::new(
-            self.rt, self.alloc, self.rings, seats, &OpenGate, self.stock, 0,
-        );
+        let _none = runner.exchange_seats(self.rings, seats);
         run_part(
-            &mut runner,
+            runner,
             &mut self.counts,
             self.number,
-            self.programs,
+            programs,
             piece,
             from,
             to,
         );
-        let (seats, _calls) = runner.into_seats();
-        self.seats = seats;
+        self.seats = runner.exchange_seats(&[], Vec::new(self.alloc));
     }
 
     // Waits for room in every ring, and then runs a turn: the contexts of a piece from number `from` up to but
     // excluding number `to`. A worker that has stopped does not wait.
-    fn take_turn(&mut self, piece: &Piece, turns: &Turns, from: usize, to: usize)
+    fn take_turn<'j>(
+        &mut self,
+        runner: &mut JobRunner<'w, 'j, R, OpenGate, K>,
+        programs: &'j [Verified],
+        piece: &'j Piece,
+        turns: &Turns,
+        from: usize,
+        to: usize,
+    )
         requires ready { IsReadyWorker self.old }
+        requires programs { self.old.programs.now ≡ programs.now }
         requires turns { self.old.full.now ≡ WaitForRoom turns.now }
         requires length { piece.now.ctx_len ≡ self.old.ctx_len }
         requires part { (from < to) × (to ≤ length piece.now.contexts) × (to ≤ from + turns.now.contexts) }
@@ -56,12 +85,19 @@ impl<'w, R: Wait, K: Stock> StreamWorker<'w, R, K> {
             return;
         }
         wait_for_all(self.rt, self.rings, &mut self.seats, &turns.limits);
-        self.run_at_once(piece, from, to);
+        self.run_at_once(runner, programs, piece, from, to);
     }
 
     // Runs every program over every context of a piece, in turns.
-    fn run_in_turns(&mut self, piece: &Piece, turns: &Turns)
+    fn run_in_turns<'j>(
+        &mut self,
+        runner: &mut JobRunner<'w, 'j, R, OpenGate, K>,
+        programs: &'j [Verified],
+        piece: &'j Piece,
+        turns: &Turns,
+    )
         requires ready { IsReadyWorker self.old }
+        requires programs { self.old.programs.now ≡ programs.now }
         requires turns { self.old.full.now ≡ WaitForRoom turns.now }
         requires length { piece.now.ctx_len ≡ self.old.ctx_len }
         ensures ready { IsReadyWorker self.new }
@@ -74,8 +110,23 @@ impl<'w, R: Wait, K: Stock> StreamWorker<'w, R, K> {
                 break;
             }
             let to = turn_end(from, end, turns.contexts);
-            self.take_turn(piece, turns, from, to);
+            self.take_turn(runner, programs, piece, turns, from, to);
             from = to;
+        }
+    }
+
+    // Runs these programs over every context of a piece, at once or in turns.
+    fn run_programs<'j>(&mut self, programs: &'j [Verified], piece: &'j Piece)
+        requires ready { IsReadyWorker self.old }
+        requires programs { self.old.programs.now ≡ programs.now }
+        requires length { piece.now.ctx_len ≡ self.old.ctx_len }
+        ensures ready { IsReadyWorker self.new }
+        ensures ran { WorkerRuns self.old piece.now.contexts self.new }
+    {
+        let mut runner = self.bare_runner();
+        match self.full {
+            WhenFull::Refuse => self.run_at_once(&mut runner, programs, piece, 0, piece.len()),
+            WhenFull::Wait(turns) => self.run_in_turns(&mut runner, programs, piece, turns),
         }
     }
 
@@ -86,10 +137,7 @@ impl<'w, R: Wait, K: Stock> StreamWorker<'w, R, K> {
         ensures ready { IsReadyWorker self.new }
         ensures ran { WorkerRuns self.old piece.now.contexts self.new }
     {
-        match self.full {
-            WhenFull::Refuse => self.run_at_once(piece, 0, piece.len()),
-            WhenFull::Wait(turns) => self.run_in_turns(piece, turns),
-        }
+        self.run_programs(self.programs, piece);
     }
 }
 

@@ -1,49 +1,36 @@
-use Rattle.std.proofs.Common.{◌≡◌, true, false, vec_len, subst, arith}
+use Rattle.std.proofs.Common.{◌≡◌, vec_len, arith}
 use Rattle.rb_jobs.proofs.Lists.{zip_length}
-use Rattle.rb_stream.specs.Refusals.{has_unknown_ring}
 use Rattle.rb_workers.specs.Opened.{workers_of}
-use Rattle.rb_service.proofs.Dealt.{counts_add_up}
+use Rattle.rb_waiting.specs.Faults.{IsFirstTooSmall}
+use Rattle.rb_service.specs.Faults.{IsTooSmallFor}
 use Rattle.rb_service.specs.Rings.{IsFreshFor}
-use Rattle.rb_service.proofs.Opening.{all_opened}
-use Rattle.rb_service.proofs.Served.{is_length, is_memory, is_no_size, is_no_workers, is_unknown}
+use Rattle.rb_service.proofs.Dealt.{counts_add_up}
+use Rattle.rb_service.proofs.Opening.{all_opened, all_unasked}
+use Rattle.rb_service.proofs.Served.{right_for_plans}
 use Rattle.rb_service.proofs.service.serve_planned.Goals as goal
 
-pub run_stream-requires-clause-opened : goal.run_stream-requires-clause-opened
-run_stream-requires-clause-opened g c κs within = all_opened g.S.Sink.position_of c.args.request.workers c.in-Ok.opened.items c.in-Ok.ensures.opened
+pub run_opened-requires-clause-opened : goal.run_opened-requires-clause-opened
+run_opened-requires-clause-opened g c κs within = all_opened g.S.Sink.position_of c.args.request.workers c.in-Ok.opened.items c.in-Ok.ensures.opened
 
-pub returns-in-Ok-run_stream-clause-served : goal.returns-in-Ok-run_stream-clause-served
-returns-in-Ok-run_stream-clause-served g c = record {
+pub returns-in-Ok-run_opened-clause-served : goal.returns-in-Ok-run_opened-clause-served
+returns-in-Ok-run_opened-clause-served g c = record {
   opened = c.in-Ok.opened.items;
   fresh = c.in-Ok.ensures.fresh;
-  streamed = c.in-Ok-run_stream.ensures.streamed;
+  ran = c.in-Ok-run_opened.ensures.ran;
 }
 
-pub returns-in-Ok-run_stream-clause-adds_up : goal.returns-in-Ok-run_stream-clause-adds_up
-returns-in-Ok-run_stream-clause-adds_up g c =
-    let s = c.in-Ok-run_stream.ensures.streamed in
-    let r = c.in-Ok-run_stream.report in
+pub returns-in-Ok-run_opened-clause-none_refused : goal.returns-in-Ok-run_opened-clause-none_refused
+returns-in-Ok-run_opened-clause-none_refused g c = λ waits. c.in-Ok-run_opened.ensures.none_refused waits (all_unasked c.args.request.workers c.args.plans.items c.in-Ok.opened.items c.in-Ok.ensures.fresh)
+
+pub returns-in-Ok-run_opened-clause-adds_up : goal.returns-in-Ok-run_opened-clause-adds_up
+returns-in-Ok-run_opened-clause-adds_up g c =
+    let s = c.in-Ok-run_opened.ensures.ran.streamed in
+    let r = c.in-Ok-run_opened.report in
     counts_add_up (workers_of c.in-Ok.opened.items) s.pieces r.contexts r.ran r.dropped s.known s.contexts_are s.ran_are s.dropped_are
 
-pub returns-in-Err-clause-no_size : goal.returns-in-Err-clause-no_size
-returns-in-Err-clause-no_size g c = is_no_size c.in-Err.stop.fault _ c.fault_of.ensures.value
-
-pub returns-in-Err-clause-no_workers : goal.returns-in-Err-clause-no_workers
-returns-in-Err-clause-no_workers g c = is_no_workers c.in-Err.stop.fault _ c.fault_of.ensures.value
-
-pub returns-in-Err-clause-unknown_ring : goal.returns-in-Err-clause-unknown_ring
-returns-in-Err-clause-unknown_ring g c =
+pub returns-in-Err-clause-fault : goal.returns-in-Err-clause-fault
+returns-in-Err-clause-fault g c =
     let z = zip_length (IsFreshFor c.args.request.workers) c.args.plans.items c.in-Ok.opened.items c.in-Ok.ensures.fresh in
     let same : vec_len c.in-Ok.opened ≡ vec_len c.args.plans = omega (arith, z, c.in-Ok.opened.ok.0, c.args.plans.ok.0) in
-    λ e. subst (λ n. has_unknown_ring n c.args.programs.now ≡ true) same (c.in-Err.ensures.unknown_ring.0 (is_unknown c.in-Err.stop.fault _ c.fault_of.ensures.value e))
-
-pub returns-in-Err-clause-context_length : goal.returns-in-Err-clause-context_length
-returns-in-Err-clause-context_length g c =
-    let z = zip_length (IsFreshFor c.args.request.workers) c.args.plans.items c.in-Ok.opened.items c.in-Ok.ensures.fresh in
-    let same : vec_len c.in-Ok.opened ≡ vec_len c.args.plans = omega (arith, z, c.in-Ok.opened.ok.0, c.args.plans.ok.0) in
-    λ e. (
-      subst (λ n. has_unknown_ring n c.args.programs.now ≡ false) same (c.in-Err.ensures.context_length.0 (is_length c.in-Err.stop.fault _ c.fault_of.ensures.value e)).0,
-      (c.in-Err.ensures.context_length.0 (is_length c.in-Err.stop.fault _ c.fault_of.ensures.value e)).1,
-    )
-
-pub returns-in-Err-clause-nothing_read : goal.returns-in-Err-clause-nothing_read
-returns-in-Err-clause-nothing_read g c = λ other. (c.in-Err.ensures.nothing_read (is_memory c.in-Err.stop.fault _ c.fault_of.ensures.value other)).1
+    right_for_plans (vec_len c.in-Ok.opened) (vec_len c.args.plans) c.args.programs.now (g.I.Source.ctx_len_of c.args.source.now) c.args.request.full (IsFirstTooSmall c.in-Ok.opened.items c.args.programs.now)
+    (IsTooSmallFor c.args.request.workers c.args.plans.items c.args.programs.now) c.in-Err.fault same (λ small too_small. record { opened = c.in-Ok.opened.items; fresh = c.in-Ok.ensures.fresh; too_small = too_small }) c.in-Err.ensures.fault

@@ -1,4 +1,4 @@
-use Rattle.std.proofs.Common.{◌≡◌, ◌∙◌, ◌<◌, arith, length, get_or, subst, sym}
+use Rattle.std.proofs.Common.{◌∙◌, arith, get_or, subst, sym}
 use Rattle.std.proofs.lemmas.List.{get_or-set_other}
 use Rattle.rb_jobs.specs.SeatHelpers.{IsAt}
 use Rattle.rb_jobs.proofs.Lists.{zip_at, zip_length}

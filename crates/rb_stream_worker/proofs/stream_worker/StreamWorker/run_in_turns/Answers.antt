@@ -1,10 +1,13 @@
-use Rattle.std.proofs.Common.{arith}
+use Rattle.std.proofs.Common.{◌∙◌, arith}
 use Rattle.rb_stream_worker.specs.inner.RunLaws.{runs_nothing}
 use Rattle.rb_stream_worker.proofs.TakenTurns.{turns_more}
 use Rattle.rb_stream_worker.proofs.stream_worker.StreamWorker.run_in_turns.Goals as goal
 
 pub loop-init : goal.loop-init
 loop-init g c = record { ready = c.requires.ready; ran = runs_nothing c.args.self.now; inside = omega arith; onward = omega arith }
+
+pub take_turn-requires-clause-programs : goal.take_turn-requires-clause-programs
+take_turn-requires-clause-programs g c = c.loop.invariant.ran.same.programs_same ∙ c.requires.programs
 
 pub loop-preserved : goal.loop-preserved
 loop-preserved g c =

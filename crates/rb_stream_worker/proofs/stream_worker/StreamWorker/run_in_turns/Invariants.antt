@@ -1,4 +1,4 @@
-use Rattle.std.proofs.Common.{◌≡◌, ◌<◌, ◌≤◌, ℕ, length, take}
+use Rattle.std.proofs.Common.{◌≤◌, length, take}
 use Rattle.rb_stream_worker.specs.ContextRuns.{IsReadyWorker, WorkerRuns}
 use Rattle.rb_stream_worker.proofs.stream_worker.StreamWorker.run_in_turns.Given as goal
 

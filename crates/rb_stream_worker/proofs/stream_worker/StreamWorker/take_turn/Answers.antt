@@ -1,4 +1,4 @@
-use Rattle.std.proofs.Common.{◌≡◌, ◌∙◌, ◌≤◌, List, arith, drop, length, subst, sym, take}
+use Rattle.std.proofs.Common.{◌∙◌, ◌≤◌, List, arith, drop, length, subst, sym, take}
 use Rattle.rb_ledger.specs.Seats.{WorkerSeat}
 use Rattle.rb_jobs.specs.SeatHelpers.{AtRings}
 use Rattle.rb_stream_worker.specs.ContextRuns.{RunsContexts}
