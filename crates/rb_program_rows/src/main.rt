@@ -16,6 +16,7 @@ mod costs;
 mod decoded;
 mod explained;
 mod fault;
+mod forms;
 mod names;
 mod numbers;
 mod row;

@@ -6,6 +6,7 @@ use crate::command_lines::answer_command_line;
 use crate::costs::answer_cost;
 use crate::decoded::{answer_at, answer_decode, answer_text, answer_units};
 use crate::explained::{ExplainedPart, answer_explain};
+use crate::forms::answer_forms;
 use crate::numbers::{number_of, two_numbers_and_rest, unit_and_rest};
 use crate::runs::answer_run;
 use crate::shapes::{answer_edges, answer_shape};
@@ -41,6 +42,8 @@ enum ProgramRow<'a> {
     Verify(u64, u64, &'a str),
     // `cost CONTEXT RINGS HEX`: the maximum cost of a verified program.
     Cost(u64, u64, &'a str),
+    // `forms CONTEXT RINGS HEX`: how each operation of a verified program finds its operands.
+    Forms(u64, u64, &'a str),
     // `run CONTEXT RINGS BYTES ANSWERS HEX`: a run with this context (`-` if it is empty), with helpers that answer
     // from a list.
     Run((u64, u64), &'a str, &'a str, &'a str),
@@ -99,6 +102,10 @@ fn row_of(line: &str) -> Option<ProgramRow<'_>> {
         "cost" => {
             let (ctx_len, rings, hex) = two_numbers_and_rest(rest)?;
             Some(ProgramRow::Cost(ctx_len, rings, hex))
+        }
+        "forms" => {
+            let (ctx_len, rings, hex) = two_numbers_and_rest(rest)?;
+            Some(ProgramRow::Forms(ctx_len, rings, hex))
         }
         "run" => run_of(rest),
         "assembly" => Some(ProgramRow::Assembly(rest)),
@@ -163,6 +170,7 @@ fn answer_row<R: Threads + Wait + Sync + Files<File = File> + Clock + Eprint + H
         ProgramRow::Edges(unit, hex) => answer_edges(alloc, unit, hex, out),
         ProgramRow::Verify(ctx_len, rings, hex) => answer_verify(alloc, ctx_len, rings, hex, out),
         ProgramRow::Cost(ctx_len, rings, hex) => answer_cost(alloc, ctx_len, rings, hex, out),
+        ProgramRow::Forms(ctx_len, rings, hex) => answer_forms(alloc, ctx_len, rings, hex, out),
         ProgramRow::Run(bounds, context, answers, hex) => {
             answer_run(alloc, bounds, context, answers, hex, out)
         }

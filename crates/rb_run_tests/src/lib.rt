@@ -22,6 +22,8 @@ mod seats;
 #[cfg(test)]
 mod shared;
 #[cfg(test)]
+mod waits;
+#[cfg(test)]
 mod workers;
 #[cfg(test)]
 mod worlds;

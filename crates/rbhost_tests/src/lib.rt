@@ -1,5 +1,5 @@
-//! Tests of the program by its command line, over readers and writers in memory that fail, and of `feed`, `tape` and
-//! `run_taped` over such writers. Command lines over devices that do not fail are rows of `rb_program_rows`, except for
+//! Tests of the program by its command line, over readers and writers in memory that fail, of `feed`, `tape` and
+//! `run_taped` over such writers, and of what `sim` reports to its watch. Command lines over devices that do not fail are rows of `rb_program_rows`, except for
 //! those with JSON lines.
 #![tactic(auto)]
 
@@ -26,7 +26,11 @@ mod kept_file;
 #[cfg(test)]
 mod run_command;
 #[cfg(test)]
+mod sim_progress;
+#[cfg(test)]
 mod tape_command;
+#[cfg(test)]
+mod tape_files;
 #[cfg(test)]
 mod taped_run;
 #[cfg(test)]

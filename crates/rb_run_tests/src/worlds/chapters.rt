@@ -116,3 +116,24 @@ fn a_full_chapter_gives_no_record(rt: HostRuntime) {
     let done = turns(&rt, &mut world, Actor::Worker(2), 3);
     same(&rt, &done, &TurnDone::Finished(0));
 }
+
+#[test]
+// The keeper has two turns: in the first chapter a record was reserved, in the second it is submitted.
+fn a_second_chapter_is_handed_out(rt: HostRuntime) {
+    let program = verified(&rt, rt.alloc(), SUBMIT_42, 0, 1);
+    let mut world = opened_with(&rt, rt.alloc(), &[worker(&program)], 8);
+    turns(&rt, &mut world, Actor::Worker(0), 4);
+    let first = turn(&rt, &mut world, Actor::Keeper(0));
+    turns(&rt, &mut world, Actor::Worker(0), 7);
+    let second = turn(&rt, &mut world, Actor::Keeper(0));
+    same(
+        &rt,
+        &[first, second],
+        &[TurnDone::Chapter(0), TurnDone::Chapter(1)],
+    );
+    same(
+        &rt,
+        &history(&rt, rt.alloc(), &world).as_slice(),
+        &[Entry::Res(0, 0, 8, 0), Entry::Sub(0)].as_slice(),
+    );
+}
