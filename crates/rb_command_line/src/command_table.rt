@@ -1,7 +1,5 @@
 //! The table of the commands and their options.
 
-use crate::stream_table::STREAM;
-
 /// A command.
 #[derive(Clone, Copy)]
 pub(crate) struct CommandRow {
@@ -47,10 +45,12 @@ pub(crate) enum OptionShape {
     RequiredValues(&'static str),
     /// `VALUE`, without the name.
     Operand(&'static str),
+    /// `VALUE`, without the name, which is required.
+    RequiredOperand(&'static str),
 }
 
-/// The commands, in the order in which help prints them.
-pub(crate) static COMMANDS: [CommandRow; 8] = [FEED, TAPE, CHECK, EXPLAIN, COST, RUN, SIM, STREAM];
+/// The commands other than those of streams, in the order in which help prints them.
+pub(crate) static COMMANDS: [CommandRow; 7] = [FEED, TAPE, CHECK, EXPLAIN, COST, RUN, SIM];
 
 const FEED: CommandRow = CommandRow {
     name: "feed",

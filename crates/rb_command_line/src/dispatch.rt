@@ -6,6 +6,7 @@ ghost use Rattle.rb_history.specs.RingModel.{IsRingSize, IsStartPosition};
 ghost use Rattle.rb_tape_commands.specs.inner.PayloadSteps.{IsWholeInput};
 
 use crate::cost_sizes::cost_with_sizes;
+use crate::follow_words::carry_out_follow;
 use crate::progress::{Metered, Progress};
 use crate::reasons::{Seen, reason_of};
 use crate::refusal::{CommandRefusal, object_of};
@@ -21,6 +22,7 @@ use rb_json::LineForm;
 use rb_loader::{Bounds, ProgramFault, explain, explain_portable, read_all};
 use rb_run_commands::{JobsFault, JobsRequest, TapeFile, check, check_portable, run, run_to_file};
 use rb_script::{SimFault, line_reason, sim};
+use rb_service::Host;
 use rb_tape_commands::{feed_buffered, tape_buffered};
 use std::alloc::Global;
 use std::convert::AsStr;
@@ -47,14 +49,7 @@ use std::time::Clock;
 ///
 /// `feed`, `tape`, `explain`, `cost` and `sim` never wait for another thread. `check` and `run` hold a ring's lock
 /// during each call, and `run` and `stream` start threads.
-pub fn command<
-    T,
-    F: Read + Write + Send + Drop,
-    S: AsStr,
-    R: Read + Send,
-    W: Write + Send,
-    E: Write,
->(
+pub fn command<T, S: AsStr, R: Read + Send, W: Write + Send, E: Write>(
     rt: &T,
     alloc: Global,
     words: &[S],
@@ -64,7 +59,7 @@ pub fn command<
     err: &mut E,
 ) -> u8
 where
-    T: Threads + Wait + Sync + Files<File = F> + Clock + Eprint,
+    T: Threads + Wait + Sync + Files<File = File> + Clock + Eprint + Host,
     ensures status { result ≤ 2 }
     ensures usage { result ≡ 2 → Keeps (R.remaining input.old) (R.remaining input.new) × Keeps (W.contents out.old) (W.contents out.new) }
 {
@@ -73,6 +68,7 @@ where
         Ok(ParsedCommand::Stream(options)) => carry_out_stream(
             rt, alloc, &options, input, out, err,
         ),
+        Ok(ParsedCommand::Follow(asked)) => carry_out_follow(rt, alloc, &asked, out, err),
         Err(error) => print_usage(&error, out, err),
     }
 }

@@ -8,6 +8,7 @@ mod bounds;
 mod command_table;
 mod cost_sizes;
 mod dispatch;
+mod follow_words;
 mod options;
 mod progress;
 mod reasons;
@@ -21,4 +22,5 @@ mod taped_jobs;
 mod terminals;
 
 pub use dispatch::command;
+pub use rb_service::Host;
 pub use terminals::Terminals;

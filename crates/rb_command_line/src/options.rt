@@ -1,14 +1,34 @@
 //! The parser of the command line, built from the tables of its commands and their options.
 
 use crate::command_table::{COMMANDS, CommandRow, OptionRow, OptionShape};
+use crate::stream_table::STREAM_COMMANDS;
 use clap::{Arg, ArgAction, Command};
 use rb_version::VERSION;
 use std::alloc::{AllocError, Global};
 
 /// Returns the commands with their options.
 pub(crate) fn program<'a>(alloc: Global) -> Result<Command<'a>, AllocError> {
-    let mut program = bare_program(alloc)?;
+    let program = with_first_commands(alloc, bare_program(alloc)?)?;
+    with_stream_commands(alloc, program)
+}
+
+// Returns the program with the commands other than those of streams.
+fn with_first_commands<'a>(
+    alloc: Global,
+    mut program: Command<'a>,
+) -> Result<Command<'a>, AllocError> {
     for row in &COMMANDS {
+        program = with_command(alloc, program, row)?;
+    }
+    Ok(program)
+}
+
+// Returns the program with the commands of streams.
+fn with_stream_commands<'a>(
+    alloc: Global,
+    mut program: Command<'a>,
+) -> Result<Command<'a>, AllocError> {
+    for row in &STREAM_COMMANDS {
         program = with_command(alloc, program, row)?;
     }
     Ok(program)
@@ -17,6 +37,16 @@ pub(crate) fn program<'a>(alloc: Global) -> Result<Command<'a>, AllocError> {
 /// Returns the command with this name, or the program without commands if there is none.
 pub(crate) fn subcommand<'a>(alloc: Global, name: &str) -> Result<Command<'a>, AllocError> {
     for row in &COMMANDS {
+        if row.name == name {
+            return named_command(alloc, row);
+        }
+    }
+    stream_subcommand(alloc, name)
+}
+
+// Returns the command of streams with this name, or the program without commands if there is none.
+fn stream_subcommand<'a>(alloc: Global, name: &str) -> Result<Command<'a>, AllocError> {
+    for row in &STREAM_COMMANDS {
         if row.name == name {
             return named_command(alloc, row);
         }
@@ -87,6 +117,7 @@ fn argument<'a>(alloc: Global, row: &OptionRow) -> Result<Arg<'a>, AllocError> {
         OptionShape::Values(value) => Ok(values(argument, row.name, value)),
         OptionShape::RequiredValues(value) => Ok(values(argument, row.name, value).required(true)),
         OptionShape::Operand(value) => Ok(argument.value_name(value)),
+        OptionShape::RequiredOperand(value) => Ok(argument.value_name(value).required(true)),
     }
 }
 

@@ -6,6 +6,7 @@ ghost use Rattle.std.specs.Str.Parse.{IsNumeral, digits_value};
 
 use crate::bounds::{SIZES, STARTS};
 use crate::cost_sizes::SizesFor;
+use crate::follow_words::FollowRequest;
 use crate::options::{program, subcommand};
 use crate::terminals::Terminals;
 use clap::error::ErrorKind;
@@ -163,10 +164,12 @@ pub(crate) struct CommandLine<'a> {
 /// Any command.
 #[derive(Drop)]
 pub(crate) enum ParsedCommand<'a> {
-    /// A command other than `stream`.
+    /// A command other than `stream` and `follow`.
     Command(CommandLine<'a>),
     /// A stream.
     Stream(StreamOptions<'a>),
+    /// A ring that is followed.
+    Follow(FollowRequest<'a>),
 }
 
 /// Returns the command that these words name, which follow the program's name on the command line. An error is help or
@@ -197,10 +200,10 @@ fn parsed_command<'a>(
         command: name,
         options,
     };
-    if name == "stream" {
-        Ok(ParsedCommand::Stream(values.stream()?))
-    } else {
-        Ok(ParsedCommand::Command(values.command_line(terminals)?))
+    match name {
+        "stream" => Ok(ParsedCommand::Stream(values.stream()?)),
+        "follow" => Ok(ParsedCommand::Follow(values.follow()?)),
+        _ => Ok(ParsedCommand::Command(values.command_line(terminals)?)),
     }
 }
 
@@ -220,7 +223,7 @@ pub(crate) struct Values<'v, 'a> {
 impl<'a> Values<'_, 'a> {
     ghost use Rattle.std.specs.Prelude.{◌≤◌, IfOk};
 
-    // Returns what is requested of a command other than `stream`.
+    // Returns what is requested of a command other than `stream` and `follow`.
     fn command_line(&self, terminals: Terminals) -> Result<CommandLine<'a>, Error> {
         let request = self.request()?;
         let is_watched = terminals.err && !terminals.out;
@@ -329,7 +332,7 @@ impl<'a> Values<'_, 'a> {
     }
 
     // Returns the form of the output.
-    fn form(&self) -> LineForm {
+    pub(crate) fn form(&self) -> LineForm {
         if self.has("json") {
             LineForm::Json
         } else {
@@ -406,13 +409,21 @@ impl<'a> Values<'_, 'a> {
 }
 
 // Returns the number that decimal digits spell, if it is below 2^64. `parse` alone would accept a leading plus.
-fn decimal(text: &str) -> Option<u64>
+pub(crate) fn decimal(text: &str) -> Option<u64>
     ensures { SomeIff result (IsNumeral 10 text.now × (digits_value 10 text.now < 2 ^ 64)) (digits_value 10 text.now) }
 {
     if text.as_bytes().first() == Some(&b'+') {
         return None;
     }
     text.parse().ok()
+}
+
+/// Returns the number of bytes that a text names, as `byte_count` does, or of GiB if a `G` follows.
+pub(crate) fn large_count(text: &str) -> Option<u64> {
+    if let Some(gigabytes) = text.strip_suffix('G') {
+        return decimal(gigabytes)?.checked_mul(1 << 30);
+    }
+    byte_count(text)
 }
 
 // Returns the number of bytes that a text names: a decimal number, of KiB if a `K` follows and of MiB if an `M`

@@ -3,9 +3,10 @@
 ghost use Rattle.std.specs.Prelude.{◌≤◌};
 
 use rb_io::write_whole;
-use rb_service::{StreamOptions, stream};
+use rb_service::{Host, StreamMetrics, StreamOptions, StreamRefusal, stream};
 use rb_workers::OpenGate;
-use std::alloc::Global;
+use std::alloc::{AllocError, Global};
+use std::fs::File;
 use std::io::{Read, Write};
 use std::rt::Files;
 use std::sync::Wait;
@@ -13,26 +14,61 @@ use std::thread::Threads;
 
 /// Runs a stream, prints its counters on `err`, and returns the status: 0 for success; 1 if the stream was refused,
 /// with a line on `err` that begins with `refused `, or if the counters could not be printed.
-pub(crate) fn carry_out_stream<
-    T,
-    F: Read + Write + Send + Drop,
-    R: Read + Send,
-    W: Write + Send,
-    E: Write,
->(rt: &T, alloc: Global, options: &StreamOptions<'_>, input: &mut R, out: &mut W, err: &mut E) -> u8
+pub(crate) fn carry_out_stream<'x, T, R: Read + Send, W: Write + Send, E: Write>(
+    rt: &'x T,
+    alloc: Global,
+    options: &StreamOptions<'x>,
+    input: &mut R,
+    out: &mut W,
+    err: &mut E,
+) -> u8
 where
-    T: Threads + Wait + Sync + Files<File = F>,
+    T: Threads + Wait + Sync + Files<File = File> + Host,
+    ensures { result ≤ 1 }
+{
+    match StreamMetrics::new(rt.host(), alloc, options.metrics, options.rings.as_slice()) {
+        Ok(metrics) => measured_stream(rt, alloc, options, &metrics, input, out, err),
+        Err(AllocError) => print_refusal(StreamRefusal::Memory, err),
+    }
+}
+
+// Runs a stream of which these metrics receive the totals.
+fn measured_stream<'m, 'x: 'm, T, R: Read + Send, W: Write + Send, E: Write>(
+    rt: &T,
+    alloc: Global,
+    options: &StreamOptions<'x>,
+    metrics: &'m StreamMetrics<'x>,
+    input: &mut R,
+    out: &mut W,
+    err: &mut E,
+) -> u8
+where
+    T: Threads + Wait + Sync + Files<File = File>,
     ensures { result ≤ 1 }
 {
     let mut counters = Vec::new(alloc);
-    let answer = stream(rt, alloc, options, &OpenGate, input, out, &mut counters);
+    let answer = stream(
+        rt,
+        alloc,
+        options,
+        &OpenGate,
+        metrics,
+        input,
+        out,
+        &mut counters,
+    );
     let is_printed = write_whole(err, counters.as_slice()).is_ok();
     match answer {
         Ok(()) if is_printed => 0,
         Ok(()) => 1,
-        Err(refusal) => {
-            let _ = writeln!(err, "refused {refusal}");
-            1
-        }
+        Err(refusal) => print_refusal(refusal, err),
     }
+}
+
+// Prints the line of a refusal, and returns its status.
+fn print_refusal<E: Write>(refusal: StreamRefusal<'_>, err: &mut E) -> u8
+    ensures { result ≤ 1 }
+{
+    let _ = writeln!(err, "refused {refusal}");
+    1
 }

@@ -1,12 +1,16 @@
 //! What the words of the command line request of a stream.
 
 use crate::bounds::SIZES;
-use crate::request::{Values, byte_count};
+use crate::request::{Values, byte_count, large_count};
 use clap::Error;
-use rb_service::{Full, NamedRing, StreamOptions};
+use rb_segments::SegmentPlan;
+use rb_service::{Full, MetricsFile, NamedRing, SegmentFolder, StreamOptions};
 use rb_source::{Fit, Form, Framing};
 use rb_stream::Late;
 use std::alloc::AllocError;
+
+/// The default for the number of bytes at which a segment is closed.
+const SEGMENT: u64 = 256 << 20;
 
 // The values of options of a stream that are given at most once.
 #[derive(Clone, Copy)]
@@ -22,8 +26,11 @@ struct StreamValues {
 impl<'a> Values<'_, 'a> {
     /// Returns what is requested of a stream.
     pub(crate) fn stream(&self) -> Result<StreamOptions<'a>, Error> {
-        let rings = self.rings()?;
         let values = self.stream_values()?;
+        let plan = self.plan()?;
+        let metrics = self.metrics()?;
+        let mut rings = self.rings()?;
+        let folder = self.outputs(rings.as_mut_slice(), plan)?;
         let programs = self.programs()?;
         Ok(StreamOptions {
             rings,
@@ -31,6 +38,8 @@ impl<'a> Values<'_, 'a> {
             workers: values.workers,
             framing: values.framing,
             form: values.form,
+            folder,
+            metrics,
             from: self.options.get_str("from"),
             late: values.late,
             full: values.full,
@@ -59,17 +68,60 @@ impl<'a> Values<'_, 'a> {
         Ok(programs)
     }
 
-    // Returns the rings, each with its output. Refuses an output for an unknown ring, a second output for one ring, and
-    // a second output to standard output.
+    // Returns the rings, without their outputs.
     fn rings(&self) -> Result<Vec<NamedRing<'a>>, Error> {
         let mut rings = Vec::new(self.alloc);
         if let Some(texts) = self.options.get_strs("ring") {
             self.add_rings(&mut rings, texts)?;
         }
-        if let Some(texts) = self.options.get_strs("out") {
-            self.add_outputs(rings.as_mut_slice(), texts)?;
-        }
         Ok(rings)
+    }
+
+    // Sets the outputs of rings, and returns the directory of segments.
+    fn outputs(
+        &self,
+        rings: &mut [NamedRing<'a>],
+        plan: SegmentPlan,
+    ) -> Result<Option<SegmentFolder<'a>>, Error> {
+        let Some(texts) = self.options.get_strs("out") else {
+            return Ok(None);
+        };
+        let path = self.add_outputs(rings, texts)?;
+        Ok(path.map(|path| SegmentFolder { path, plan }))
+    }
+
+    // Returns when segments are closed and deleted.
+    fn plan(&self) -> Result<SegmentPlan, Error> {
+        Ok(SegmentPlan {
+            segment: self.bytes("segment", SEGMENT)?,
+            keep: self.bytes("keep", u64::MAX)?,
+        })
+    }
+
+    // Returns the number of bytes of an option, which may be several GiB, or `otherwise` if it is not given.
+    fn bytes(&self, name: &str, otherwise: u64) -> Result<u64, Error> {
+        let Some(text) = self.options.get_str(name) else {
+            return Ok(otherwise);
+        };
+        match large_count(text) {
+            Some(count) if count > 0 => Ok(count),
+            _ => Err(self.refused(name, "a number of bytes")),
+        }
+    }
+
+    // Returns the file of metrics, and how often it is written.
+    fn metrics(&self) -> Result<Option<MetricsFile<'a>>, Error> {
+        let every = match self.options.get_str("every") {
+            None => 10,
+            Some(_) => self.bounded("every", 0, 86_400)?,
+        };
+        let Some(path) = self.options.get_str("metrics") else {
+            return Ok(None);
+        };
+        Ok(Some(MetricsFile {
+            path,
+            every: u64::from(every),
+        }))
     }
 
     // Appends the rings that these texts name.
@@ -88,6 +140,10 @@ impl<'a> Values<'_, 'a> {
         let Some(size) = byte_count(size) else {
             return Err(self.wrong("ring", text, SIZES));
         };
+        if !is_plain(name) {
+            let wanted = "NAME:SIZE with a name of letters, digits, - and _";
+            return Err(self.wrong("ring", text, wanted));
+        }
         if rings.len() >= 16 || is_named(rings.as_slice(), name) {
             let wanted = "one of at most 16 rings with names of their own";
             return Err(self.wrong("ring", text, wanted));
@@ -100,13 +156,25 @@ impl<'a> Values<'_, 'a> {
         Ok(())
     }
 
-    // Sets the outputs that these texts name.
-    fn add_outputs(&self, rings: &mut [NamedRing<'a>], texts: &[&'a str]) -> Result<(), Error> {
+    // Sets the outputs that these texts name, and returns the directory that is among them. Refuses an output for an
+    // unknown ring, a second output for one ring, a second output to standard output, and a second directory.
+    fn add_outputs(
+        &self,
+        rings: &mut [NamedRing<'a>],
+        texts: &[&'a str],
+    ) -> Result<Option<&'a str>, Error> {
         let mut printed = false;
+        let mut folder = None;
         for text in texts {
-            printed = self.add_output(rings, *text, printed)?;
+            if text.contains('=') {
+                printed = self.add_output(rings, *text, printed)?;
+            } else if folder.is_some() {
+                return Err(self.wrong("out", *text, "the only directory"));
+            } else {
+                folder = Some(*text);
+            }
         }
-        Ok(())
+        Ok(folder)
     }
 
     // Sets the output that a text names. Returns whether standard output is an output.
@@ -174,6 +242,12 @@ impl<'a> Values<'_, 'a> {
         }
         self.bounded("results", 0, 65_536)
     }
+}
+
+// Returns whether a name can be part of a file's name and of a label of metrics.
+fn is_plain(name: &str) -> bool {
+    !name.is_empty()
+        && name.bytes().all(|byte| byte.is_ascii_alphanumeric() || byte == b'-' || byte == b'_')
 }
 
 // Returns whether a ring has this name.

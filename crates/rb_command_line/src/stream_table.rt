@@ -1,9 +1,11 @@
-//! The table of the options of `stream`.
+//! The tables of the options of `stream` and `follow`.
 
 use crate::command_table::{CommandRow, OptionRow, OptionShape};
 
-/// The command `stream`.
-pub(crate) const STREAM: CommandRow = CommandRow {
+/// The commands of streams. They have a table of their own, since a proof reads a table as a whole.
+pub(crate) static STREAM_COMMANDS: [CommandRow; 2] = [STREAM, FOLLOW];
+
+const STREAM: CommandRow = CommandRow {
     name: "stream",
     about: "Runs programs on contexts as they arrive, and writes the records of each ring as a tape",
     example: "Example: tcpdump -U -w - | tools/pcap-frames | rbhost stream --ring packets:1M --program filter.hex --workers 4 --ctx 128 --in frames --fit cut --out packets=-",
@@ -17,6 +19,10 @@ pub(crate) const STREAM: CommandRow = CommandRow {
         WITH_LENGTH,
         FROM,
         OUT,
+        SEGMENT,
+        KEEP,
+        METRICS,
+        EVERY,
         LATE,
         FULL,
         RESULTS,
@@ -73,8 +79,32 @@ const FROM: OptionRow = OptionRow {
 
 const OUT: OptionRow = OptionRow {
     name: "out",
-    shape: OptionShape::Values("NAME=FILE"),
-    help: "The file to which the tape of a ring is written, - for standard output; other rings are consumed and counted",
+    shape: OptionShape::Values("DIR|NAME=FILE"),
+    help: "A directory to which tapes are written in segments; or the file to which the tape of one ring is written, - for standard output. Other rings are consumed and counted",
+};
+
+const SEGMENT: OptionRow = OptionRow {
+    name: "segment",
+    shape: OptionShape::Value("N"),
+    help: "Close a segment once it has N bytes, 256M by default; K, M and G stand for KiB, MiB and GiB",
+};
+
+const KEEP: OptionRow = OptionRow {
+    name: "keep",
+    shape: OptionShape::Value("N"),
+    help: "Delete the oldest segments of a ring beyond N bytes; all are kept by default",
+};
+
+const METRICS: OptionRow = OptionRow {
+    name: "metrics",
+    shape: OptionShape::Value("FILE"),
+    help: "Write counters to this file in the text format of Prometheus, at the end and while it runs",
+};
+
+const EVERY: OptionRow = OptionRow {
+    name: "every",
+    shape: OptionShape::Value("S"),
+    help: "Write them every S seconds, 10 by default; at the end only if S is 0",
 };
 
 const LATE: OptionRow = OptionRow {
@@ -93,4 +123,35 @@ const RESULTS: OptionRow = OptionRow {
     name: "results",
     shape: OptionShape::Value("N"),
     help: "Count each result below N by itself: 0 to 65536, 16 by default",
+};
+
+const FOLLOW: CommandRow = CommandRow {
+    name: "follow",
+    about: "Prints a line for each record of a ring whose segments a host writes, and waits for more",
+    example: "Example: rbhost follow /var/lib/heskavo packets --json",
+    options: &[DIR, NAME, FROM_POSITION, JSON],
+};
+
+const DIR: OptionRow = OptionRow {
+    name: "dir",
+    shape: OptionShape::RequiredOperand("DIR"),
+    help: "The directory to which `stream --out DIR` writes",
+};
+
+const NAME: OptionRow = OptionRow {
+    name: "name",
+    shape: OptionShape::RequiredOperand("NAME"),
+    help: "The name of the ring",
+};
+
+const FROM_POSITION: OptionRow = OptionRow {
+    name: "from",
+    shape: OptionShape::Value("P"),
+    help: "Begin with the record at this position; with the oldest one by default",
+};
+
+const JSON: OptionRow = OptionRow {
+    name: "json",
+    shape: OptionShape::Flag,
+    help: "Print an object of JSON in the place of each line",
 };

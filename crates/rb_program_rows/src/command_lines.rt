@@ -1,7 +1,7 @@
 //! Command lines of `rbhost`, with inputs in memory.
 
 use crate::bytes::{bytes_of, tell_escaped, unescaped};
-use rb_command_line::{Terminals, command};
+use rb_command_line::{Host, Terminals, command};
 use std::alloc::{AllocError, Global};
 use std::fmt::Write;
 use std::fs::File;
@@ -45,12 +45,9 @@ struct Ending {
 /// Writes how a command line ends. Its words come before ` < ` and a text with escapes, or ` : ` and hex, which
 /// are its input. Words may contain escapes too. It is run with reads of three lengths, except `run`, which is run
 /// once.
-pub(crate) fn answer_command_line<R: Threads + Wait + Sync + Files<File = File> + Clock + Eprint>(
-    rt: &R,
-    alloc: Global,
-    line: &str,
-    out: &mut String,
-) -> Result<(), AllocError> {
+pub(crate) fn answer_command_line<
+    R: Threads + Wait + Sync + Files<File = File> + Clock + Eprint + Host,
+>(rt: &R, alloc: Global, line: &str, out: &mut String) -> Result<(), AllocError> {
     let (words, input) = match (line.split_once("< "), line.split_once(": ")) {
         (Some((words, text)), _) => (words, Some(unescaped(alloc, text)?)),
         (None, Some((words, hex))) => (words, bytes_of(alloc, hex)?),
@@ -80,7 +77,7 @@ fn words_of(alloc: Global, line: &str) -> Result<Option<Vec<String>>, AllocError
     Ok(Some(words))
 }
 
-fn tell_command<R: Threads + Wait + Sync + Files<File = File> + Clock + Eprint>(
+fn tell_command<R: Threads + Wait + Sync + Files<File = File> + Clock + Eprint + Host>(
     rt: &R,
     alloc: Global,
     words: &[String],
@@ -106,7 +103,7 @@ fn is_run(words: &[String]) -> bool {
 }
 
 // Returns how a command ends with an input that returns at most this many bytes at a time.
-fn ended<R: Threads + Wait + Sync + Files<File = File> + Clock + Eprint>(
+fn ended<R: Threads + Wait + Sync + Files<File = File> + Clock + Eprint + Host>(
     rt: &R,
     alloc: Global,
     words: &[String],

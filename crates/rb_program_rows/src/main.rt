@@ -29,6 +29,7 @@ mod witness;
 
 use fault::ProgramRowsFault;
 use names::Names;
+use rb_command_line::Host;
 use std::alloc::Global;
 use std::fs::File;
 use std::io::{BufRead, BufReader, BufWriter, Eprint, Read, Write};
@@ -50,7 +51,7 @@ fn main(rt: HostRuntime) -> ExitCode {
 
 // Answers each line of the input.
 fn answer_all<
-    R: Threads + Wait + Sync + Files<File = File> + Clock + Eprint,
+    R: Threads + Wait + Sync + Files<File = File> + Clock + Eprint + Host,
     I: Read + Drop,
     W: Write,
 >(rt: &R, alloc: Global, input: I, out: &mut W) -> Result<(), ProgramRowsFault> {
@@ -65,7 +66,7 @@ fn answer_all<
     Ok(())
 }
 
-fn answer_line<R: Threads + Wait + Sync + Files<File = File> + Clock + Eprint, W: Write>(
+fn answer_line<R: Threads + Wait + Sync + Files<File = File> + Clock + Eprint + Host, W: Write>(
     rt: &R,
     alloc: Global,
     names: &mut Names,

@@ -11,6 +11,7 @@ use crate::runs::answer_run;
 use crate::shapes::{answer_edges, answer_shape};
 use crate::steps::{Way, answer_join, answer_step};
 use crate::verified::answer_verify;
+use rb_command_line::Host;
 use rb_insn::Reg;
 use rb_verifier::{Helper, Limits};
 use std::alloc::{AllocError, Global};
@@ -63,7 +64,7 @@ enum ProgramRow<'a> {
 }
 
 /// Answers the row of a line. A line that is not a row is answered with its number.
-pub(crate) fn answer<R: Threads + Wait + Sync + Files<File = File> + Clock + Eprint>(
+pub(crate) fn answer<R: Threads + Wait + Sync + Files<File = File> + Clock + Eprint + Host>(
     rt: &R,
     alloc: Global,
     number: u64,
@@ -147,7 +148,7 @@ fn step_of(way: Way, words: &str) -> Option<ProgramRow<'_>> {
     Some(ProgramRow::Step((way, Limits { ctx_len, rings }, unit), state, hex))
 }
 
-fn answer_row<R: Threads + Wait + Sync + Files<File = File> + Clock + Eprint>(
+fn answer_row<R: Threads + Wait + Sync + Files<File = File> + Clock + Eprint + Host>(
     rt: &R,
     alloc: Global,
     row: ProgramRow<'_>,

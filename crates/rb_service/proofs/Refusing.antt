@@ -11,9 +11,6 @@ use Rattle.rb_service.specs.declared.refusal.StreamRefusal.{StreamRefusal}
 use Rattle.rb_service.specs.declared.refusal.StreamRefusal.TheVariants.{Context, Size, Workers}
 use Rattle.rb_service.specs.declared.options.NamedRing.{NamedRing}
 use Rattle.rb_service.specs.declared.options.StreamOptions.{StreamOptions}
-use Rattle.rb_service.specs.declared.outputs.RingOutput.{RingOutput}
-use Rattle.rb_service.specs.declared.rings.RingPlan.{RingPlan}
-use Rattle.rb_service.specs.Outputs.{output_position}
 
 -- this ring is the first whose size is wrong
 pub wrong_first : (rings : List NamedRing) (n : ℕ) (e : NamedRing) → n < length rings → ¬ IsRingSize (get_or rings n e).size → AllWithin (λ r. IsRingSize r.size) rings 0 n → IsWrongFirst rings (get_or rings n e)
@@ -42,9 +39,6 @@ later_right options (Err (Size name)) allowed later = absurd later
 later_right options (Err Workers) allowed later = absurd later
 later_right options (Err _) allowed later = allowed
 
--- one more plan whose output begins at position 0
-pub begins_more : {A B : Type 0} (old mid new : List (RingPlan (RingOutput A B))) (plan : RingPlan (RingOutput A B)) → mid ≡ old → new ≡ mid ++ plan ∷ []
-    → All (λ (p : RingPlan (RingOutput A B)). output_position p.sink ≡ 0) old → output_position plan.sink ≡ 0 → All (λ (p : RingPlan (RingOutput A B)). output_position p.sink ≡ 0) new
-begins_more {A} {B} old mid new plan same grown so_far begins =
-    let at_0 = λ (p : RingPlan (RingOutput A B)). output_position p.sink ≡ 0 in
-    All-same at_0 new (mid ++ plan ∷ []) grown (All-push at_0 mid plan (All-same at_0 mid old same so_far) begins)
+-- an element more of which this holds
+pub all_more : {A : Type 0} (P : A → Type 0) (old mid new : List A) (one : A) → mid ≡ old → new ≡ mid ++ one ∷ [] → All P old → P one → All P new
+all_more P old mid new one same grown so_far holds = All-same P new (mid ++ one ∷ []) grown (All-push P mid one (All-same P mid old same so_far) holds)

@@ -31,9 +31,9 @@ reported_turn_fault (TurnTooSmall small) = TooSmall small
 reported_turn_fault TurnMemory = Memory
 
 -- of the rings, opened as planned, this is the first that one context of every worker does not fit
-pub record IsTooSmallFor {S : Type 0} (workers : ℕ) (plans : List (RingPlan S)) (programs : List Subject) (small : SmallRing) : Type 0 where
+pub record IsTooSmallFor {S : Type 0} (position : S → ℕ) (workers : ℕ) (plans : List (RingPlan S)) (programs : List Subject) (small : SmallRing) : Type 0 where
   pub opened : List (Opened S)
-  pub fresh : AllZip (IsFreshFor workers) plans opened
+  pub fresh : AllZip (IsFreshFor position workers) plans opened
   pub too_small : IsFirstTooSmall opened programs small
 
 -- Why so many rings, which may be opened, have no report: a program was verified for more of them than there are; or

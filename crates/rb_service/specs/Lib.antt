@@ -1,6 +1,5 @@
 pub mod Command
 pub mod Counters
 pub mod Faults
-pub mod Outputs
 pub mod Rings
 pub mod Service

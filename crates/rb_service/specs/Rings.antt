@@ -15,9 +15,9 @@ pub record IsFirstWrong {S : Type 0} (plans : List (RingPlan S)) (number : ℕ) 
   pub wrong : HoldsAt (λ p. ¬ IsRingSize p.size) plans number
   pub right_before : AllWithin (λ p. IsRingSize p.size) plans 0 number
 
--- the ring was just opened at position 0, with the size and the sink of the plan and for this number of workers
-pub record IsFreshFor {S : Type 0} (workers : ℕ) (plan : RingPlan S) (o : Opened S) : Type 0 where
-  pub seats_are : o.seats.items ≡ fresh_seats o.ring.tag o.ring.ring (room_of plan.size) (fresh_book plan.size 0 workers) 0 workers
-  pub consumer_is : o.consumer ≡ fresh_chapter_consumer o.ring.tag o.ring.ring (room_of plan.size) (fresh_book plan.size 0 workers)
+-- the ring was just opened at the position of the plan's sink, with its size and for this number of workers
+pub record IsFreshFor {S : Type 0} (position : S → ℕ) (workers : ℕ) (plan : RingPlan S) (o : Opened S) : Type 0 where
+  pub seats_are : o.seats.items ≡ fresh_seats o.ring.tag o.ring.ring (room_of plan.size) (fresh_book plan.size (position plan.sink) workers) 0 workers
+  pub consumer_is : o.consumer ≡ fresh_chapter_consumer o.ring.tag o.ring.ring (room_of plan.size) (fresh_book plan.size (position plan.sink) workers)
   pub keeper_is : o.keeper ≡ record { chapter = empty_chapter (room_of plan.size) workers; margin = margin_of plan.size; is_lent = false }
   pub sink_is : o.sink ≡ plan.sink

@@ -32,5 +32,5 @@ pub record RunsAsRequested {S I : Type 0} (position : S → ℕ) (takes : S → 
 -- report
 pub record Serves {S I : Type 0} (position : S → ℕ) (takes : S → SinkItem → S → Type 0) (gives : I → List (List ℕ) → I → Type 0) (plans : List (RingPlan S)) (programs : List Subject) (request : ServiceRequest) (source later : I) (report : StreamReport S) : Type 0 where
   pub opened : List (Opened S)
-  pub fresh : AllZip (IsFreshFor request.workers) plans opened
+  pub fresh : AllZip (IsFreshFor position request.workers) plans opened
   pub ran : RunsAsRequested position takes gives opened programs request source later report

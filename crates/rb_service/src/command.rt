@@ -1,23 +1,24 @@
 //! The command `stream`.
 
-ghost use Rattle.std.specs.Prelude.{◌≡◌, All, IfErr, IfOk, OnOk};
-ghost use Rattle.rb_history.specs.RingModel.{IsRingSize};
+ghost use Rattle.std.specs.Prelude.{All, IfErr, OnOk};
+ghost use Rattle.rb_history.specs.RingModel.{IsStartPosition};
 ghost use Rattle.rb_service.specs.Command.{HasContexts, IsAllowed, IsLater, IsRightRefusal};
 ghost use Rattle.rb_service.specs.Counters.{AppendsCounters};
-ghost use Rattle.rb_service.specs.Outputs.{output_position};
+ghost use Rattle.rb_outputs.specs.Outputs.{output_position};
 
-use crate::options::{NamedRing, StreamOptions};
-use crate::outputs::RingOutput;
+use crate::folders::{check_rings, lock};
+use crate::metrics::StreamMetrics;
+use crate::options::StreamOptions;
+use crate::output_files::{MeasuredOutput, plan_rings};
 use crate::refusal::{StreamRefusal, check_options, refusal_of};
 use crate::report::report_on;
 use crate::rings::RingPlan;
 use crate::service::{ServiceRequest, serve};
-use rb_io::Buffered;
+use crate::watched_source::WatchedSource;
 use rb_loader::{Bounds, read_program};
-use rb_run_commands::TapeSink;
 use rb_source::FramedReader;
 use rb_verifier::Verified;
-use rb_workers::{NullSink, OpenGate};
+use rb_workers::OpenGate;
 use std::alloc::Global;
 use std::fs::{self, File, OpenOptions};
 use std::io::{self, Read, Write};
@@ -27,14 +28,12 @@ use std::sync::Wait;
 use std::thread::Threads;
 
 // Reads and verifies the programs.
-fn read_programs<'a, T, F: Read + Drop>(
+fn read_programs<'a, T: Files<File = File>>(
     rt: &T,
     alloc: Global,
     options: &StreamOptions<'a>,
     bounds: Bounds,
 ) -> Result<Vec<Verified>, StreamRefusal<'a>>
-where
-    T: Files<File = F>,
     ensures later { IfErr result IsLater }
 {
     let mut programs = Vec::new(alloc);
@@ -54,72 +53,9 @@ where
     Ok(programs)
 }
 
-// Opens the output of a ring. `out` is standard output, until a ring uses it.
-fn open_output<'a, T, F: Write + Drop, W: Write + Drop>(
-    rt: &T,
-    alloc: Global,
-    ring: NamedRing<'a>,
-    out: &mut Option<W>,
-    gate: &'a OpenGate,
-) -> Result<RingOutput<'a, Buffered<W>, Buffered<F>>, StreamRefusal<'a>>
-where
-    T: Files<File = F>,
-    requires size { IsRingSize ring.size }
-    ensures begins { IfOk result (λ output. output_position output ≡ 0) }
-    ensures later { IfErr result IsLater }
-{
-    let Some(path) = ring.out else {
-        return Ok(RingOutput::Nowhere(NullSink { position: 0 }));
-    };
-    if path == "-"
-        && let Some(out) = out.take()
-    {
-        let tape = Buffered::new(alloc, out)?;
-        return Ok(RingOutput::Stream(TapeSink::new(tape, ring.size, 0, gate)));
-    }
-    match File::create(rt, path) {
-        Ok(file) => {
-            let tape = Buffered::new(alloc, file)?;
-            Ok(RingOutput::File(TapeSink::new(tape, ring.size, 0, gate)))
-        }
-        Err(_) => Err(StreamRefusal::Open(path)),
-    }
-}
-
-// Returns the plan of each ring: its size, and the output of its records.
-fn plan_rings<'a, T, F: Write + Drop, W: Write + Drop>(
-    rt: &T,
-    alloc: Global,
-    options: &StreamOptions<'a>,
-    out: W,
-    gate: &'a OpenGate,
-) -> Result<Vec<RingPlan<RingOutput<'a, Buffered<W>, Buffered<F>>>>, StreamRefusal<'a>>
-where
-    T: Files<File = F>,
-    requires sizes { All (λ r. IsRingSize r.size) options.now.rings.items }
-    ensures begins { IfOk result (λ plans. All (λ p. output_position p.sink ≡ 0) plans.items) }
-    ensures later { IfErr result IsLater }
-{
-    let mut plans = Vec::new(alloc);
-    let mut out = Some(out);
-    for at in 0..options.rings.len() {
-        let ring = options.rings[at];
-        let sink = open_output(rt, alloc, ring, &mut out, gate)?;
-        plans.reserve(1)?;
-        plans.push_reserved(RingPlan {
-            size: ring.size,
-            sink,
-        });
-    }
-    Ok(plans)
-}
-
 // Opens the file of the input. A FIFO is opened for reading and writing, because one that is open only for reading ends
 // when its last writer closes it.
-fn open_input<T, F: Read + Drop>(rt: &T, path: &str) -> io::Result<F>
-where
-    T: Files<File = F>,
-{
+fn open_input<T: Files<File = File>>(rt: &T, path: &str) -> io::Result<File> {
     let is_fifo = match fs::metadata(rt, path) {
         Ok(found) => found.file_type().is_fifo(),
         Err(_) => false,
@@ -131,27 +67,23 @@ where
 }
 
 // Runs the stream over the contexts of this reader.
-fn stream_from<
-    'a,
-    T: Threads + Wait + Sync,
-    I: Read + Send + Drop,
-    A: Write + Send + Drop,
-    B: Write + Send + Drop,
->(
+fn stream_from<'a, T: Threads + Wait + Sync, I: Read + Send + Drop, W: Write + Send + Drop>(
     rt: &T,
     alloc: Global,
     options: &StreamOptions<'a>,
     programs: &[Verified],
     input: I,
-    plans: Vec<RingPlan<RingOutput<'a, Buffered<A>, Buffered<B>>>>,
+    plans: Vec<RingPlan<MeasuredOutput<'a, HostRuntime, W>>>,
+    metrics: &'a StreamMetrics<'a>,
     printed: &mut Vec<u8>,
 ) -> Result<(), StreamRefusal<'a>>
     requires contexts { HasContexts options.now }
-    requires begins { All (λ p. output_position p.sink ≡ 0) plans.items }
+    requires begins { All (λ p. IsStartPosition (output_position p.sink.output)) plans.items }
     ensures later { IfErr result IsLater }
     ensures counted { OnOk result (AppendsCounters printed.old.items printed.new.items) }
 {
-    let mut source = FramedReader::new(alloc, input, options.framing, options.form)?;
+    let reader = FramedReader::new(alloc, input, options.framing, options.form)?;
+    let mut source = WatchedSource::new(reader, metrics);
     let request = ServiceRequest {
         workers: options.workers,
         late: options.late,
@@ -159,7 +91,7 @@ fn stream_from<
         results: options.results,
     };
     match serve(rt, alloc, programs, &mut source, plans, request) {
-        Ok(report) => report_on(alloc, options, report, source.counts(), printed),
+        Ok(report) => report_on(alloc, options, report, source.counts(), metrics, printed),
         Err(fault) => Err(refusal_of(options, fault)),
     }
 }
@@ -170,42 +102,48 @@ fn stream_from<
 /// Appends the counters to `printed`, even if the input or an output failed. A FIFO is opened for reading and writing,
 /// so that writers may come and go; the input then ends at an end mark.
 ///
+/// A ring whose tape is written to the directory of segments opens at the position at which the tape continues. The
+/// directory is locked until the end. Once the tape is complete, its end is marked there, so that `follow` ends.
+///
 /// # Errors
 ///
 /// `Context`, `Size` and `Workers` are refusals of the options, in this order, and are returned before any file is
-/// opened. After that, the programs are read in order, the outputs are opened in the order of the rings, and the
-/// input's file is opened. Nothing is read from the input before.
-pub fn stream<'a, T, F: Read + Write + Send + Drop, R: Read + Send, W: Write + Send>(
+/// opened. After that, the programs are read in order, the directory is locked, the sizes of its rings are compared, the
+/// outputs are opened in the order of the rings, and the input's file is opened. Nothing is read from the input before.
+pub fn stream<'a, T: Threads + Wait + Sync + Files<File = File>, R: Read + Send, W: Write + Send>(
     rt: &T,
     alloc: Global,
     options: &StreamOptions<'a>,
     gate: &'a OpenGate,
+    metrics: &'a StreamMetrics<'a>,
     input: &mut R,
     out: &mut W,
     printed: &mut Vec<u8>,
 ) -> Result<(), StreamRefusal<'a>>
-where
-    T: Threads + Wait + Sync + Files<File = F>,
     ensures refused { IfErr result (IsRightRefusal options.now) }
     ensures allowed { OnOk result (IsAllowed options.now) }
     ensures counted { OnOk result (AppendsCounters printed.old.items printed.new.items) }
 {
     check_options(options)?;
-    stream_allowed(rt, alloc, options, gate, input, out, printed)
+    stream_allowed(rt, alloc, options, gate, metrics, input, out, printed)
 }
 
 // Runs the stream with these options, which are allowed.
-fn stream_allowed<'a, T, F: Read + Write + Send + Drop, R: Read + Send, W: Write + Send>(
+fn stream_allowed<
+    'a,
+    T: Threads + Wait + Sync + Files<File = File>,
+    R: Read + Send,
+    W: Write + Send,
+>(
     rt: &T,
     alloc: Global,
     options: &StreamOptions<'a>,
     gate: &'a OpenGate,
+    metrics: &'a StreamMetrics<'a>,
     input: &mut R,
     out: &mut W,
     printed: &mut Vec<u8>,
 ) -> Result<(), StreamRefusal<'a>>
-where
-    T: Threads + Wait + Sync + Files<File = F>,
     requires allowed { IsAllowed options.now }
     ensures later { IfErr result IsLater }
     ensures counted { OnOk result (AppendsCounters printed.old.items printed.new.items) }
@@ -213,28 +151,63 @@ where
     let ctx_len = options.form.ctx_len();
     let rings = options.rings.len().min(16) as u32;
     let programs = read_programs(rt, alloc, options, Bounds { ctx_len, rings })?;
-    let plans = plan_rings(rt, alloc, options, out, gate)?;
-    let Some(path) = options.from else {
-        return stream_from(
+    let Some(folder) = options.folder else {
+        return stream_planned(
             rt,
             alloc,
             options,
             programs.as_slice(),
+            gate,
+            metrics,
             input,
-            plans,
+            out,
             printed,
         );
     };
+    let lock = lock(rt, alloc, folder)?;
+    check_rings(rt, alloc, folder, options.rings.as_slice())?;
+    let answer = stream_planned(
+        rt,
+        alloc,
+        options,
+        programs.as_slice(),
+        gate,
+        metrics,
+        input,
+        out,
+        printed,
+    );
+    drop(lock);
+    answer
+}
+
+// Opens the outputs and the input, and runs the programs.
+fn stream_planned<
+    'a,
+    T: Threads + Wait + Sync + Files<File = File>,
+    R: Read + Send,
+    W: Write + Send,
+>(
+    rt: &T,
+    alloc: Global,
+    options: &StreamOptions<'a>,
+    programs: &[Verified],
+    gate: &'a OpenGate,
+    metrics: &'a StreamMetrics<'a>,
+    input: &mut R,
+    out: &mut W,
+    printed: &mut Vec<u8>,
+) -> Result<(), StreamRefusal<'a>>
+    requires allowed { IsAllowed options.now }
+    ensures later { IfErr result IsLater }
+    ensures counted { OnOk result (AppendsCounters printed.old.items printed.new.items) }
+{
+    let plans = plan_rings(metrics.host, alloc, options, out, gate, metrics)?;
+    let Some(path) = options.from else {
+        return stream_from(rt, alloc, options, programs, input, plans, metrics, printed);
+    };
     match open_input(rt, path) {
-        Ok(file) => stream_from(
-            rt,
-            alloc,
-            options,
-            programs.as_slice(),
-            file,
-            plans,
-            printed,
-        ),
+        Ok(file) => stream_from(rt, alloc, options, programs, file, plans, metrics, printed),
         Err(_) => Err(StreamRefusal::Open(path)),
     }
 }

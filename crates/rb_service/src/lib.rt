@@ -7,18 +7,25 @@
 
 mod command;
 mod counters;
+mod folders;
+mod host;
+mod metrics;
+mod metrics_text;
 mod opened_run;
 mod options;
-mod outputs;
+mod output_files;
 mod refusal;
 mod report;
 mod rings;
 mod service;
+mod watch;
+mod watched_source;
 
 pub use command::stream;
 pub use counters::counters_text;
-pub use options::{NamedRing, StreamOptions};
-pub use outputs::RingOutput;
+pub use host::Host;
+pub use metrics::StreamMetrics;
+pub use options::{MetricsFile, NamedRing, SegmentFolder, StreamOptions};
 pub use refusal::StreamRefusal;
 pub use rings::RingPlan;
 pub use service::{Full, ServiceFault, ServiceRequest, serve};

@@ -1,6 +1,7 @@
 //! The options of a stream.
 
 use crate::service::Full;
+use rb_segments::SegmentPlan;
 use rb_source::{Form, Framing};
 use rb_stream::Late;
 
@@ -11,9 +12,27 @@ pub struct NamedRing<'a> {
     pub name: &'a str,
     /// Its size in bytes.
     pub size: u64,
-    /// The file to which its tape is written, or `-` for standard output. If there is none, the ring's records are
-    /// consumed and counted.
+    /// The file to which its tape is written, or `-` for standard output. If there is none, the tape is written to the
+    /// directory of segments. If there is no such directory either, the ring's records are consumed and counted.
     pub out: Option<&'a str>,
+}
+
+/// A directory to which tapes are written in segments.
+#[derive(Clone, Copy, Debug, PartialEq, Eq)]
+pub struct SegmentFolder<'a> {
+    /// Its path. It is created if there is none.
+    pub path: &'a str,
+    /// When segments are closed and deleted.
+    pub plan: SegmentPlan,
+}
+
+/// A file to which metrics are written.
+#[derive(Clone, Copy, Debug, PartialEq, Eq)]
+pub struct MetricsFile<'a> {
+    /// Its path. The file is written under this name with `.new` appended, and renamed.
+    pub path: &'a str,
+    /// Every so many seconds it is written again while the stream runs. It is always written at the end; if this is 0, only then.
+    pub every: u64,
 }
 
 /// The options of a stream.
@@ -29,6 +48,10 @@ pub struct StreamOptions<'a> {
     pub framing: Framing,
     /// The form of contexts: their length, and what happens to those of another length.
     pub form: Form,
+    /// The directory of segments.
+    pub folder: Option<SegmentFolder<'a>>,
+    /// The file of metrics.
+    pub metrics: Option<MetricsFile<'a>>,
     /// The file that is read instead of the input.
     pub from: Option<&'a str>,
     /// What happens to contexts when the queues of all workers are full.

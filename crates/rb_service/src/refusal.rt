@@ -30,6 +30,18 @@ pub enum StreamRefusal<'a> {
     /// The program in this file was refused.
     #[error("program {0}: {1}")]
     Program(&'a str, ProgramFault),
+    /// The directory of segments could not be created or locked.
+    #[error("directory {0}")]
+    Folder(&'a str),
+    /// Another host writes to the directory of segments.
+    #[error("directory {0}: another host writes to it")]
+    Locked(&'a str),
+    /// The directory of segments has the ring with this name, and this other size.
+    #[error("ring {0} has size {1} in the directory")]
+    OtherSize(&'a str, u64),
+    /// The segments of this ring in the directory are damaged, or could not be read or created.
+    #[error("segments of ring {0}")]
+    Segments(&'a str),
     /// The input could not be read. All contexts before that were run or dropped.
     #[error("input cannot be read")]
     Input,
@@ -39,6 +51,9 @@ pub enum StreamRefusal<'a> {
     /// The tape of this ring was not written completely.
     #[error("tape of ring {0}")]
     Tape(&'a str),
+    /// This file of metrics could not be written at the end.
+    #[error("metrics {0}")]
+    Metrics(&'a str),
     /// Workers are to wait for room, and the ring of this name is the first that has no room for one context of every
     /// worker. The number is the size of the smallest ring that has.
     #[error("size of ring {0}: one context of every worker needs {1}")]

@@ -5,12 +5,17 @@ ghost use Rattle.rb_service.specs.Command.{IsLater};
 ghost use Rattle.rb_service.specs.Counters.{AppendsCounters};
 
 use crate::counters::counters_text;
+use crate::metrics::StreamMetrics;
+use crate::metrics_text::EndTotals;
 use crate::options::StreamOptions;
-use crate::outputs::RingOutput;
+use crate::output_files::MeasuredOutput;
 use crate::refusal::StreamRefusal;
-use rb_io::Buffered;
+use rb_history::Counts;
+use rb_outputs::OutputEnd;
+use rb_segments::mark_end;
 use rb_source::{ContextCounts, SourceFault};
 use rb_stream::{StreamEnd, StreamReport};
+use rb_workers::Ended;
 use std::alloc::{AllocError, Global};
 use std::io::Write;
 
@@ -34,19 +39,52 @@ fn ring_names<'a>(
     Ok(names)
 }
 
-// Flushes the outputs, and returns the number of the first one that was not written completely.
-fn finish_outputs<'a, A: Write + Drop, B: Write + Drop>(
-    report: StreamReport<RingOutput<'a, Buffered<A>, Buffered<B>>>,
+// Flushes the outputs, and marks the ends of those in segments. Returns the number of the first one that was not written completely.
+fn finish_outputs<'a, W: Write + Drop>(
+    host: &HostRuntime,
+    alloc: Global,
+    options: &StreamOptions<'a>,
+    rings: Vec<Ended<MeasuredOutput<'a, HostRuntime, W>>>,
 ) -> Option<usize> {
     let mut at = 0usize;
     let mut failed = None;
-    for ended in report.rings {
-        if !ended.sink.finish() && failed.is_none() {
+    for ended in rings {
+        let is_whole = match ended.sink.finish() {
+            OutputEnd::Whole => true,
+            OutputEnd::Segments(position) => mark_ring(host, alloc, options, at, position),
+            OutputEnd::Failed => false,
+        };
+        if !is_whole && failed.is_none() {
             failed = Some(at);
         }
         at = at.saturating_add(1);
     }
     failed
+}
+
+// Marks in the directory of segments that the tape of this ring ended at this position. Returns whether that succeeded.
+fn mark_ring(
+    host: &HostRuntime,
+    alloc: Global,
+    options: &StreamOptions<'_>,
+    at: usize,
+    position: u64,
+) -> bool {
+    match (options.folder, options.rings.get(at)) {
+        (Some(folder), Some(ring)) => {
+            mark_end(host, alloc, folder.path, ring.name, position).is_ok()
+        }
+        _ => false,
+    }
+}
+
+// Returns the counts of the rings.
+fn ring_counts<S>(alloc: Global, rings: &[Ended<S>]) -> Result<Vec<Counts>, AllocError> {
+    let mut counts = Vec::new(alloc);
+    for at in 0..rings.len() {
+        counts.push(rings[at].closing.counts())?;
+    }
+    Ok(counts)
 }
 
 // Appends the counters of this report to `printed`.
@@ -65,13 +103,15 @@ fn print_counters<S>(
     printed.extend_from_slice(text.as_bytes())
 }
 
-/// Appends the counters to `printed`, and flushes the outputs. Returns `Tape` for the first output that was not written
-/// completely, and otherwise the fault that ended the stream, if there is one.
-pub(crate) fn report_on<'a, A: Write + Drop, B: Write + Drop>(
+/// Appends the counters to `printed`, flushes the outputs, and writes the metrics. Returns `Tape` for the first output
+/// that was not written completely, then `Metrics` if their file was not written, and otherwise the fault that ended the
+/// stream, if there is one.
+pub(crate) fn report_on<'a, W: Write + Drop>(
     alloc: Global,
     options: &StreamOptions<'a>,
-    report: StreamReport<RingOutput<'a, Buffered<A>, Buffered<B>>>,
+    report: StreamReport<MeasuredOutput<'a, HostRuntime, W>>,
     contexts: ContextCounts,
+    metrics: &StreamMetrics<'a>,
     printed: &mut Vec<u8>,
 ) -> Result<(), StreamRefusal<'a>>
     requires adds_up { report.contexts < 2 ^ 64 - 1 → report.contexts ≡ report.ran + report.dropped }
@@ -80,11 +120,46 @@ pub(crate) fn report_on<'a, A: Write + Drop, B: Write + Drop>(
 {
     let names = ring_names(alloc, options, report.rings.len())?;
     print_counters(alloc, &report, contexts, names.as_slice(), printed)?;
-    let end = report.end;
-    if let Some(at) = finish_outputs(report)
-        && let Some(name) = names.get(at)
+    end_outputs(alloc, options, report, metrics)
+}
+
+// Flushes the outputs, and writes the metrics.
+fn end_outputs<'a, W: Write + Drop>(
+    alloc: Global,
+    options: &StreamOptions<'a>,
+    report: StreamReport<MeasuredOutput<'a, HostRuntime, W>>,
+    metrics: &StreamMetrics<'a>,
+) -> Result<(), StreamRefusal<'a>>
+    ensures later { IfErr result IsLater }
+{
+    let StreamReport {
+        rings,
+        contexts: _,
+        dropped,
+        ran,
+        results,
+        unlogged,
+        strays: _,
+        end,
+    } = report;
+    let totals = EndTotals {
+        run: ran,
+        dropped,
+        unlogged,
+        results,
+        rings: ring_counts(alloc, rings.as_slice())?,
+    };
+    let failed = finish_outputs(metrics.host, alloc, options, rings);
+    let is_written = metrics.write_end(&totals);
+    if let Some(at) = failed
+        && let Some(ring) = options.rings.get(at)
     {
-        return Err(StreamRefusal::Tape(*name));
+        return Err(StreamRefusal::Tape(ring.name));
+    }
+    if let Some(file) = options.metrics
+        && !is_written
+    {
+        return Err(StreamRefusal::Metrics(file.path));
     }
     match end {
         StreamEnd::Over => Ok(()),

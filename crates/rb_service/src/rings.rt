@@ -1,8 +1,8 @@
 //! Opens the rings of a service.
 
-ghost use Rattle.std.specs.Prelude.{◌≡◌, ◌↔◌, ℕ, All, IfOk, IsErrOf, OnOk};
+ghost use Rattle.std.specs.Prelude.{◌↔◌, ℕ, All, IfOk, IsErrOf, OnOk};
 ghost use Rattle.std.specs.List.{AllZip};
-ghost use Rattle.rb_history.specs.RingModel.{IsRingSize, IsWorkerCount};
+ghost use Rattle.rb_history.specs.RingModel.{IsRingSize, IsStartPosition, IsWorkerCount};
 ghost use Rattle.rb_workers.specs.Opened.{IsOpened};
 ghost use Rattle.rb_service.specs.Rings.{IsFirstWrong, IsFreshFor};
 ghost use Rattle.rb_service.specs.declared.rings.PlanFault.TheVariants.{Size as WrongSize, Workers as WrongWorkers};
@@ -49,7 +49,7 @@ pub(crate) fn check_plans<S>(plans: &[RingPlan<S>], workers: u32) -> Result<(), 
     Ok(())
 }
 
-// Opens the ring with this number at position 0.
+// Opens the ring with this number at the position of its sink.
 fn open_ring<T: Wait, S: Sink + Drop>(
     rt: &T,
     alloc: Global,
@@ -57,15 +57,16 @@ fn open_ring<T: Wait, S: Sink + Drop>(
     plan: RingPlan<S>,
     workers: u32,
 ) -> Result<Opened<S>, AllocError>
-    requires begins { S.position_of plan.sink ≡ 0 }
+    requires begins { IsStartPosition (S.position_of plan.sink) }
     requires size { IsRingSize plan.size }
     requires workers { IsWorkerCount workers }
     ensures opened { IfOk result (IsOpened S.position_of workers) }
-    ensures fresh { IfOk result (IsFreshFor workers plan) }
+    ensures fresh { IfOk result (IsFreshFor S.position_of workers plan) }
 {
     let RingPlan { size, sink } = plan;
+    let start = sink.position();
     let (room, margin) = (chapter_room(size), chapter_margin(size));
-    match Opened::open(rt, alloc, number, size, 0, workers, room, margin, sink) {
+    match Opened::open(rt, alloc, number, size, start, workers, room, margin, sink) {
         Ok(one) => Ok(one),
         Err(OpenFault::Memory) => Err(AllocError),
         Err(OpenFault::Size) => unreachable!(),
@@ -75,18 +76,19 @@ fn open_ring<T: Wait, S: Sink + Drop>(
     }
 }
 
-/// Opens a ring for each plan, at position 0 and with this number of workers. Fails only if memory can't be allocated.
+/// Opens a ring for each plan, at the position of its sink and with this number of workers. Fails only if memory can't be
+/// allocated.
 pub(crate) fn open_rings<T: Wait, S: Sink + Drop>(
     rt: &T,
     alloc: Global,
     plans: Vec<RingPlan<S>>,
     workers: u32,
 ) -> Result<Vec<Opened<S>>, AllocError>
-    requires begins { All (λ p. S.position_of p.sink ≡ 0) plans.items }
+    requires begins { All (λ p. IsStartPosition (S.position_of p.sink)) plans.items }
     requires sizes { All (λ p. IsRingSize p.size) plans.items }
     requires workers { IsWorkerCount workers }
     ensures opened { IfOk result (λ opened. All (IsOpened S.position_of workers) opened.items) }
-    ensures fresh { IfOk result (λ opened. AllZip (IsFreshFor workers) plans.items opened.items) }
+    ensures fresh { IfOk result (λ opened. AllZip (IsFreshFor S.position_of workers) plans.items opened.items) }
 {
     let mut opened = Vec::new(alloc);
     for plan in plans {

@@ -1,7 +1,7 @@
 //! A stream over rings that are opened for it.
 
 ghost use Rattle.std.specs.Prelude.{◌≡◌, ◌≢◌, ◌↔◌, ◌+◌, ◌-◌, ◌≤◌, ◌<◌, ◌^◌, ℕ, All, IfErr, IfOk, IsErrOf, false, true, vec_len};
-ghost use Rattle.rb_history.specs.RingModel.{IsRingSize, IsWorkerCount};
+ghost use Rattle.rb_history.specs.RingModel.{IsRingSize, IsStartPosition, IsWorkerCount};
 ghost use Rattle.rb_workers.specs.Rest.{LeavesNothing};
 ghost use Rattle.rb_stream.specs.Refusals.{has_other_length, has_unknown_ring};
 ghost use Rattle.rb_stream.specs.Streamed.{EndsSource};
@@ -75,8 +75,8 @@ pub enum ServiceFault {
     Memory,
 }
 
-/// Opens a ring for each plan, at position 0, runs every program on each context of the source, and closes the rings
-/// once the source has ended or failed. Each ring's records go to its sink. Every context that the source gave was run
+/// Opens a ring for each plan, at the position of its sink, runs every program on each context of the source, and closes
+/// the rings once the source has ended or failed. Each ring's records go to its sink. Every context that the source gave was run
 /// by every program or dropped.
 ///
 /// If workers wait for room, no seat and no history of a ring has a refusal, provided that the ring's producer position
@@ -96,13 +96,13 @@ pub fn serve<T: Threads + Wait + Sync, I: Source + Send, S: Sink + Send + Drop>(
     plans: Vec<RingPlan<S>>,
     request: ServiceRequest,
 ) -> Result<StreamReport<S>, ServiceFault>
-    requires begins { All (λ p. S.position_of p.sink ≡ 0) plans.items }
+    requires begins { All (λ p. IsStartPosition (S.position_of p.sink)) plans.items }
     ensures size { (number : ℕ) → IsErrOf result (Size number) ↔ IsFirstWrong plans.items number }
     ensures workers { IsErrOf result Workers ↔ (All (λ p. IsRingSize p.size) plans.items × ¬ IsWorkerCount request.workers) }
     ensures unknown_ring { IsErrOf result UnknownRing → has_unknown_ring (vec_len plans) programs.now ≡ true }
     ensures context_length { IsErrOf result ContextLength → (has_unknown_ring (vec_len plans) programs.now ≡ false) × (has_other_length (I.ctx_len_of source.old) programs.now ≡ true) }
     ensures fewer_rings { IsErrOf result FewerRings → (request.full ≡ Full.Wait) × ¬ All (λ p. vec_len plans ≤ p.rings) programs.now }
-    ensures too_small { (small : SmallRingValue) → IsErrOf result (TooSmall small) → (request.full ≡ Full.Wait) × IsTooSmallFor request.workers plans.items programs.now small }
+    ensures too_small { (small : SmallRingValue) → IsErrOf result (TooSmall small) → (request.full ≡ Full.Wait) × IsTooSmallFor S.position_of request.workers plans.items programs.now small }
     ensures nothing_read { IfErr result (λ fault. fault ≢ Memory → source.new ≡ source.old) }
     ensures served { IfOk result (Serves S.position_of S.takes I.gives plans.items programs.now request source.old source.new) }
     ensures none_refused { IfOk result (λ r. request.full ≡ Full.Wait → All StaysLow r.rings.items → All RefusesNoRecord r.rings.items) }
@@ -127,10 +127,10 @@ fn serve_planned<T: Threads + Wait + Sync, I: Source + Send, S: Sink + Send + Dr
     plans: Vec<RingPlan<S>>,
     request: ServiceRequest,
 ) -> Result<StreamReport<S>, ServiceFault>
-    requires begins { All (λ p. S.position_of p.sink ≡ 0) plans.items }
+    requires begins { All (λ p. IsStartPosition (S.position_of p.sink)) plans.items }
     requires sizes { All (λ p. IsRingSize p.size) plans.items }
     requires workers { IsWorkerCount request.workers }
-    ensures fault { IfErr result (IsRightFault (vec_len plans) programs.now (I.ctx_len_of source.old) request.full (IsTooSmallFor request.workers plans.items programs.now)) }
+    ensures fault { IfErr result (IsRightFault (vec_len plans) programs.now (I.ctx_len_of source.old) request.full (IsTooSmallFor S.position_of request.workers plans.items programs.now)) }
     ensures nothing_read { IfErr result (λ fault. fault ≢ Memory → source.new ≡ source.old) }
     ensures served { IfOk result (Serves S.position_of S.takes I.gives plans.items programs.now request source.old source.new) }
     ensures none_refused { IfOk result (λ r. request.full ≡ Full.Wait → All StaysLow r.rings.items → All RefusesNoRecord r.rings.items) }

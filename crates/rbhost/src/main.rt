@@ -1,4 +1,4 @@
-//! A host for eBPF programs that write to BPF ring buffers, as a program with eight commands.
+//! A host for eBPF programs that write to BPF ring buffers, as a program with nine commands.
 //!
 //! - `feed` puts payloads through a ring, and writes the bytes that a reader of the kernel's ring buffer maps
 //!   (ringbuf.rst), as a *tape*: a file of records.
@@ -11,7 +11,9 @@
 //! - `run` runs a verified program as jobs of workers, on threads and over one ring, and prints the counts of each
 //!   worker. On request, it writes the records that the ring's consumer took to a file as a tape.
 //! - `sim` runs a script of workers and rings in turns, without threads.
-//! - `stream` runs verified programs on contexts as they arrive, and writes the records of each ring as a tape.
+//! - `stream` runs verified programs on contexts as they arrive, and writes the records of each ring as a tape, also in
+//!   segments.
+//! - `follow` prints the records of a ring's segments, also while they are written.
 //!
 //! The contracts are those of the public calls of the crates below:
 //!

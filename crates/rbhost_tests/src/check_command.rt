@@ -3,7 +3,7 @@
 use crate::endings::ending;
 use crate::expected::same_of;
 use crate::fakes::{FakeReader, FakeWriter, Trouble};
-use rb_command_line::{Terminals, command};
+use rb_command_line::{Host, Terminals, command};
 use std::alloc::Global;
 use std::fs::File;
 use std::io::{Eprint, ErrorKind};
@@ -18,7 +18,7 @@ const EXIT_ZERO: &str = "b700000000000000 9500000000000000";
 
 // Returns what is reported about a reader that fails after the program, and about a writer with room for `room` bytes,
 // or one that can't be flushed.
-fn told_of_trouble<T: Abort + Threads + Wait + Sync + Files<File = File> + Clock + Eprint>(
+fn told_of_trouble<T: Abort + Threads + Wait + Sync + Files<File = File> + Clock + Eprint + Host>(
     rt: &T,
     alloc: Global,
     mut reader: FakeReader<'_>,

@@ -3,7 +3,7 @@
 use crate::endings::{ended, ending};
 use crate::expected::{same, same_of};
 use crate::fakes::{FakeReader, FakeWriter, Trouble};
-use rb_command_line::{Terminals, command};
+use rb_command_line::{Host, Terminals, command};
 use std::alloc::Global;
 use std::fs::File;
 use std::io::{Eprint, ErrorKind};
@@ -17,7 +17,7 @@ use std::time::Clock;
 const TWO: [u8; 9] = [1, 0, 0, 0, 0xff, 0, 0, 0, 0];
 
 // Returns whether the arguments print a help text that ends with a single line feed, while nothing is read or reported.
-fn is_help<T: Threads + Wait + Sync + Files<File = File> + Clock + Eprint>(
+fn is_help<T: Threads + Wait + Sync + Files<File = File> + Clock + Eprint + Host>(
     rt: &T,
     alloc: Global,
     words: &[&str],
@@ -52,7 +52,7 @@ fn help(rt: HostRuntime) {
 }
 
 // Returns the status of `feed` over this reader and a writer with `room` bytes of room, and how many bytes it wrote.
-fn fed_with<T: Abort + Threads + Wait + Sync + Files<File = File> + Clock + Eprint>(
+fn fed_with<T: Abort + Threads + Wait + Sync + Files<File = File> + Clock + Eprint + Host>(
     rt: &T,
     alloc: Global,
     mut reader: FakeReader<'_>,
@@ -122,7 +122,7 @@ fn positions_that_cannot_be_told(rt: HostRuntime) {
 }
 
 // Returns the status of `feed --why` over this reader and this writer.
-fn fed_with_reason<T: Abort + Threads + Wait + Sync + Files<File = File> + Clock + Eprint>(
+fn fed_with_reason<T: Abort + Threads + Wait + Sync + Files<File = File> + Clock + Eprint + Host>(
     rt: &T,
     alloc: Global,
     mut reader: FakeReader<'_>,

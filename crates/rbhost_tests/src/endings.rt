@@ -1,7 +1,7 @@
 //! The results of commands, as one text or one status.
 
 use crate::fakes::FakeReader;
-use rb_command_line::{Terminals, command};
+use rb_command_line::{Host, Terminals, command};
 use std::alloc::Global;
 use std::fs::File;
 use std::io::Eprint;
@@ -12,7 +12,7 @@ use std::thread::Threads;
 use std::time::Clock;
 
 /// Returns the status, what was reported on stderr, and what was printed, which must be text, too.
-pub(crate) fn ended<T: Abort + Threads + Wait + Sync + Files<File = File> + Clock + Eprint>(
+pub(crate) fn ended<T: Abort + Threads + Wait + Sync + Files<File = File> + Clock + Eprint + Host>(
     rt: &T,
     alloc: Global,
     words: &[&str],
@@ -22,12 +22,9 @@ pub(crate) fn ended<T: Abort + Threads + Wait + Sync + Files<File = File> + Cloc
 }
 
 /// Returns the same, over this reader.
-pub(crate) fn ended_over<T: Abort + Threads + Wait + Sync + Files<File = File> + Clock + Eprint>(
-    rt: &T,
-    alloc: Global,
-    words: &[&str],
-    mut reader: FakeReader<'_>,
-) -> String {
+pub(crate) fn ended_over<
+    T: Abort + Threads + Wait + Sync + Files<File = File> + Clock + Eprint + Host,
+>(rt: &T, alloc: Global, words: &[&str], mut reader: FakeReader<'_>) -> String {
     let mut printed = Vec::new(alloc);
     let mut told = Vec::new(alloc);
     let status = command(

@@ -3,7 +3,7 @@
 use crate::endings::ending;
 use crate::expected::same_of;
 use crate::fakes::{FakeReader, FakeWriter, OneFailure, Trouble};
-use rb_command_line::{Terminals, command};
+use rb_command_line::{Host, Terminals, command};
 use rb_io::ReadAhead;
 use rb_tape_commands::{FeedFault, feed};
 use std::alloc::Global;
@@ -74,7 +74,7 @@ fn one_write_is_tried_again(rt: HostRuntime) {
 }
 
 // Returns the same for the command: its status, what it reported, and its output.
-fn told<T: Abort + Threads + Wait + Sync + Files<File = File> + Clock + Eprint>(
+fn told<T: Abort + Threads + Wait + Sync + Files<File = File> + Clock + Eprint + Host>(
     rt: &T,
     alloc: Global,
     fails_at: usize,

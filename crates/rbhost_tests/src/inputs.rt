@@ -2,7 +2,7 @@
 
 use crate::endings::{ended, ending};
 use crate::expected::same_of;
-use rb_command_line::{Terminals, command};
+use rb_command_line::{Host, Terminals, command};
 use std::alloc::Global;
 use std::fs;
 use std::fs::File;
@@ -32,7 +32,7 @@ impl Read for Repeated {
 }
 
 // Returns the result of a command over this reader, with these streams as terminals.
-fn ended_at<T: Abort + Threads + Wait + Sync + Files<File = File> + Clock + Eprint>(
+fn ended_at<T: Abort + Threads + Wait + Sync + Files<File = File> + Clock + Eprint + Host>(
     rt: &T,
     alloc: Global,
     words: &[&str],

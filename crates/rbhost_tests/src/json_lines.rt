@@ -2,6 +2,7 @@
 
 use crate::endings::ended;
 use crate::expected::same_of;
+use rb_command_line::Host;
 use std::alloc::Global;
 use std::fs::File;
 use std::io::Eprint;
@@ -26,7 +27,7 @@ const TEXT_TAPE: [u8; 32] = [
 const BYTE_TAPE: [u8; 16] = [1, 0, 0, 0, 0, 0, 0, 0, 0xff, 0, 0, 0, 0, 0, 0, 0];
 
 // Checks that the result of each command line, over its input, begins with this text.
-fn each_ends_so<T: Abort + Threads + Wait + Sync + Files<File = File> + Clock + Eprint>(
+fn each_ends_so<T: Abort + Threads + Wait + Sync + Files<File = File> + Clock + Eprint + Host>(
     rt: &T,
     alloc: Global,
     rows: &[(&[&str], &[u8], &str)],

@@ -2,6 +2,7 @@
 
 use crate::endings::ended;
 use crate::expected::same_of;
+use rb_command_line::Host;
 use std::fs;
 use std::fs::File;
 use std::io::Eprint;
@@ -18,7 +19,7 @@ const OUTPUT_CONTEXT: &[u8] = b"bf12000000000000 1851000000000000 00000000000000
 // Returns the result of the command over this program, with the ring's size and start and the number of workers, and a
 // tape in this file.
 fn refused_with<
-    T: Abort + AllocGlobal + Threads + Wait + Sync + Files<File = File> + Clock + Eprint,
+    T: Abort + AllocGlobal + Threads + Wait + Sync + Files<File = File> + Clock + Eprint + Host,
 >(rt: &T, path: &str, ring: [&str; 3], program: &[u8]) -> String {
     let words = [
         "run",

@@ -5,6 +5,7 @@ ghost use Rattle.std.specs.Prelude.{◌≡◌};
 use crate::endings::{ended, number};
 use crate::expected::{same, same_of};
 use crate::fakes::{FakeWriter, Trouble};
+use rb_command_line::Host;
 use rb_json::LineForm;
 use rb_loader::read_program;
 use rb_run_commands::{JOB_BOUNDS, JobsRequest, WrittenTape, check_ring, run_taped};
@@ -34,7 +35,9 @@ fn output_context(rt: &(impl Abort + AllocGlobal)) -> Verified
 
 // Returns what a run with these workers and jobs prints while its tape goes to this writer, and the tape. There is room
 // for each record, so nothing else is reported.
-fn run_over<T: Abort + AllocGlobal + Threads + Wait + Sync + Files<File = File> + Clock + Eprint>(
+fn run_over<
+    T: Abort + AllocGlobal + Threads + Wait + Sync + Files<File = File> + Clock + Eprint + Host,
+>(
     rt: &T,
     workers: u64,
     jobs: u32,
@@ -146,12 +149,9 @@ fn a_flush_that_fails(rt: HostRuntime) {
 }
 
 // Returns the result of the command with a tape in this file and these workers.
-fn taped<T: Abort + AllocGlobal + Threads + Wait + Sync + Files<File = File> + Clock + Eprint>(
-    rt: &T,
-    path: &str,
-    workers: &str,
-    program: &str,
-) -> String {
+fn taped<
+    T: Abort + AllocGlobal + Threads + Wait + Sync + Files<File = File> + Clock + Eprint + Host,
+>(rt: &T, path: &str, workers: &str, program: &str) -> String {
     let words = [
         "run",
         "--jobs",

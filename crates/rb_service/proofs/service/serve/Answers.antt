@@ -13,25 +13,25 @@ serve_planned-requires-clause-sizes g c = λ lives outlives. subst (λ (l : List
 
 pub returns-in-Ok-clause-size : goal.returns-in-Ok-clause-size
 returns-in-Ok-clause-size g c =
-    no_size c.args.plans.items _ Size (λ number e. of_error (IsRightFault (vec_len c.args.plans) c.args.programs.now (g.I.Source.ctx_len_of c.args.source.now) c.args.request.full (IsTooSmallFor c.args.request.workers c.args.plans.items c.args.programs.now)) c.serve_planned.result (Size number) c.serve_planned.ensures.fault e) (subst (λ (l : List (RingPlan _)). All (λ (p : RingPlan _). IsRingSize p.size) l) c.as_slice.ensures.value c.in-Ok.ensures.allowed.0)
+    no_size c.args.plans.items _ Size (λ number e. of_error (IsRightFault (vec_len c.args.plans) c.args.programs.now (g.I.Source.ctx_len_of c.args.source.now) c.args.request.full (IsTooSmallFor g.S.Sink.position_of c.args.request.workers c.args.plans.items c.args.programs.now)) c.serve_planned.result (Size number) c.serve_planned.ensures.fault e) (subst (λ (l : List (RingPlan _)). All (λ (p : RingPlan _). IsRingSize p.size) l) c.as_slice.ensures.value c.in-Ok.ensures.allowed.0)
 
 pub returns-in-Ok-clause-workers : goal.returns-in-Ok-clause-workers
 returns-in-Ok-clause-workers g c = (
-  λ e. absurd (of_error (IsRightFault (vec_len c.args.plans) c.args.programs.now (g.I.Source.ctx_len_of c.args.source.now) c.args.request.full (IsTooSmallFor c.args.request.workers c.args.plans.items c.args.programs.now)) c.serve_planned.result Workers c.serve_planned.ensures.fault e),
+  λ e. absurd (of_error (IsRightFault (vec_len c.args.plans) c.args.programs.now (g.I.Source.ctx_len_of c.args.source.now) c.args.request.full (IsTooSmallFor g.S.Sink.position_of c.args.request.workers c.args.plans.items c.args.programs.now)) c.serve_planned.result Workers c.serve_planned.ensures.fault e),
   λ h. absurd (h.1 c.in-Ok.ensures.allowed.1),
 )
 
 pub returns-in-Ok-clause-unknown_ring : goal.returns-in-Ok-clause-unknown_ring
-returns-in-Ok-clause-unknown_ring g c = of_error (IsRightFault (vec_len c.args.plans) c.args.programs.now (g.I.Source.ctx_len_of c.args.source.now) c.args.request.full (IsTooSmallFor c.args.request.workers c.args.plans.items c.args.programs.now)) c.serve_planned.result UnknownRing c.serve_planned.ensures.fault
+returns-in-Ok-clause-unknown_ring g c = of_error (IsRightFault (vec_len c.args.plans) c.args.programs.now (g.I.Source.ctx_len_of c.args.source.now) c.args.request.full (IsTooSmallFor g.S.Sink.position_of c.args.request.workers c.args.plans.items c.args.programs.now)) c.serve_planned.result UnknownRing c.serve_planned.ensures.fault
 
 pub returns-in-Ok-clause-context_length : goal.returns-in-Ok-clause-context_length
-returns-in-Ok-clause-context_length g c = of_error (IsRightFault (vec_len c.args.plans) c.args.programs.now (g.I.Source.ctx_len_of c.args.source.now) c.args.request.full (IsTooSmallFor c.args.request.workers c.args.plans.items c.args.programs.now)) c.serve_planned.result ContextLength c.serve_planned.ensures.fault
+returns-in-Ok-clause-context_length g c = of_error (IsRightFault (vec_len c.args.plans) c.args.programs.now (g.I.Source.ctx_len_of c.args.source.now) c.args.request.full (IsTooSmallFor g.S.Sink.position_of c.args.request.workers c.args.plans.items c.args.programs.now)) c.serve_planned.result ContextLength c.serve_planned.ensures.fault
 
 pub returns-in-Ok-clause-fewer_rings : goal.returns-in-Ok-clause-fewer_rings
-returns-in-Ok-clause-fewer_rings g c = of_error (IsRightFault (vec_len c.args.plans) c.args.programs.now (g.I.Source.ctx_len_of c.args.source.now) c.args.request.full (IsTooSmallFor c.args.request.workers c.args.plans.items c.args.programs.now)) c.serve_planned.result FewerRings c.serve_planned.ensures.fault
+returns-in-Ok-clause-fewer_rings g c = of_error (IsRightFault (vec_len c.args.plans) c.args.programs.now (g.I.Source.ctx_len_of c.args.source.now) c.args.request.full (IsTooSmallFor g.S.Sink.position_of c.args.request.workers c.args.plans.items c.args.programs.now)) c.serve_planned.result FewerRings c.serve_planned.ensures.fault
 
 pub returns-in-Ok-clause-too_small : goal.returns-in-Ok-clause-too_small
-returns-in-Ok-clause-too_small g c = λ small. of_error (IsRightFault (vec_len c.args.plans) c.args.programs.now (g.I.Source.ctx_len_of c.args.source.now) c.args.request.full (IsTooSmallFor c.args.request.workers c.args.plans.items c.args.programs.now)) c.serve_planned.result (TooSmall small) c.serve_planned.ensures.fault
+returns-in-Ok-clause-too_small g c = λ small. of_error (IsRightFault (vec_len c.args.plans) c.args.programs.now (g.I.Source.ctx_len_of c.args.source.now) c.args.request.full (IsTooSmallFor g.S.Sink.position_of c.args.request.workers c.args.plans.items c.args.programs.now)) c.serve_planned.result (TooSmall small) c.serve_planned.ensures.fault
 
 pub returns-in-Err-Size-clause-size : goal.returns-in-Err-Size-clause-size
 returns-in-Err-Size-clause-size g c =

@@ -20,7 +20,7 @@ returns-in-Ok-run_opened-clause-served g c = record {
 }
 
 pub returns-in-Ok-run_opened-clause-none_refused : goal.returns-in-Ok-run_opened-clause-none_refused
-returns-in-Ok-run_opened-clause-none_refused g c = λ waits. c.in-Ok-run_opened.ensures.none_refused waits (all_unasked c.args.request.workers c.args.plans.items c.in-Ok.opened.items c.in-Ok.ensures.fresh)
+returns-in-Ok-run_opened-clause-none_refused g c = λ waits. c.in-Ok-run_opened.ensures.none_refused waits (all_unasked g.S.Sink.position_of c.args.request.workers c.args.plans.items c.in-Ok.opened.items c.in-Ok.ensures.fresh)
 
 pub returns-in-Ok-run_opened-clause-adds_up : goal.returns-in-Ok-run_opened-clause-adds_up
 returns-in-Ok-run_opened-clause-adds_up g c =
@@ -30,7 +30,7 @@ returns-in-Ok-run_opened-clause-adds_up g c =
 
 pub returns-in-Err-clause-fault : goal.returns-in-Err-clause-fault
 returns-in-Err-clause-fault g c =
-    let z = zip_length (IsFreshFor c.args.request.workers) c.args.plans.items c.in-Ok.opened.items c.in-Ok.ensures.fresh in
+    let z = zip_length (IsFreshFor g.S.Sink.position_of c.args.request.workers) c.args.plans.items c.in-Ok.opened.items c.in-Ok.ensures.fresh in
     let same : vec_len c.in-Ok.opened ≡ vec_len c.args.plans = omega (arith, z, c.in-Ok.opened.ok.0, c.args.plans.ok.0) in
     right_for_plans (vec_len c.in-Ok.opened) (vec_len c.args.plans) c.args.programs.now (g.I.Source.ctx_len_of c.args.source.now) c.args.request.full (IsFirstTooSmall c.in-Ok.opened.items c.args.programs.now)
-    (IsTooSmallFor c.args.request.workers c.args.plans.items c.args.programs.now) c.in-Err.fault same (λ small too_small. record { opened = c.in-Ok.opened.items; fresh = c.in-Ok.ensures.fresh; too_small = too_small }) c.in-Err.ensures.fault
+    (IsTooSmallFor g.S.Sink.position_of c.args.request.workers c.args.plans.items c.args.programs.now) c.in-Err.fault same (λ small too_small. record { opened = c.in-Ok.opened.items; fresh = c.in-Ok.ensures.fresh; too_small = too_small }) c.in-Err.ensures.fault

@@ -1,0 +1,19 @@
+//! What outputs in segments come to over a whole run.
+
+ghost use Rattle.std.specs.Prelude.{◌≡◌, List};
+ghost use Rattle.rb_run_commands.specs.TapedRun.{sink_tape_items};
+ghost use Rattle.rb_segments.specs.SegmentTape.{SegmentTape};
+ghost use Rattle.rb_workers.specs.Sink.{SinkItem, TakesAll};
+ghost use Rattle.rb_outputs.specs.Outputs.{ContinuesWith, output_takes};
+ghost use Rattle.rb_outputs.specs.declared.outputs.RingOutput.{RingOutput};
+ghost use Rattle.rb_outputs.specs.declared.outputs.RingOutput.TheVariants.{Segments};
+
+use rb_io::Outgoing;
+use rb_segments::SegmentStore;
+
+/// The law of outputs in segments: after an output received these items, one by one and in this order, it is still one in segments, and these hold the
+/// items' records after those that they held. So they hold the records that the ring's history took, in order, as long as no fault ended the tape. The
+/// function does nothing; its contract is the law.
+pub fn segments_hold_what_was_taken<A: Outgoing, B: Outgoing, S: SegmentStore<F>, F: Outgoing>()
+    ensures law { (old : SegmentTape S F) (items : List SinkItem) (new : RingOutput A B S F) → TakesAll (output_takes A.contents A.writes_out B.contents B.writes_out S.segments F.contents) (Segments old) items new → (tape : SegmentTape S F) × (new ≡ Segments tape) × ContinuesWith S.segments F.contents old (sink_tape_items items) tape }
+{}

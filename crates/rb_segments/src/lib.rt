@@ -1,0 +1,31 @@
+//! The tape of a ring in segments: files of a directory, each a whole tape by itself, named by the position of its first record
+//! (`specs/Segments.antt`).
+#![tactic(auto)]
+
+mod directory_store;
+mod fault;
+mod laws;
+mod memory_store;
+mod names;
+mod opening;
+mod plan;
+mod ring_files;
+mod rolling;
+mod segment_file;
+mod store;
+mod stored;
+mod writer;
+
+pub use directory_store::DirectoryStore;
+pub use fault::{OpeningFault, SegmentFault};
+pub use laws::joined_segments_are_the_tape;
+pub use memory_store::{MemoryFile, MemorySegment, MemoryStore};
+pub use names::segment_path;
+pub use plan::SegmentPlan;
+pub use ring_files::{
+    DirectoryFault, SegmentedRing, enter_ring, lock_folder, mark_end, marked_end, ring_numbers,
+};
+pub use segment_file::SegmentFile;
+pub use store::SegmentStore;
+pub use stored::StoredSegment;
+pub use writer::SegmentWriter;
