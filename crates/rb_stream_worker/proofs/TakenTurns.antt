@@ -183,6 +183,20 @@ found_more limits olds xs at s new in_limits in_olds in_xs one before k d b a be
     (subst (λ p. FindsRoom (get_or limits at 0) p new) (get_or_default olds at s b in_olds) one))))
     (cases_lt k at)
 
+-- the same by what is known of the rings
+pub found_next : (rings : List Shared) (limits : List ℕ) (olds xs : List WorkerSeat) (at : ℕ) (s new : WorkerSeat) → AtRings rings olds → length limits ≡ length rings → length xs ≡ length olds → at < length rings
+    → ((k : ℕ) (b : WorkerSeat) → at ≤ k → get_or xs k b ≡ get_or olds k b) → FindsRoom (get_or limits at 0) (get_or xs at s) new
+    → ((k d : ℕ) (b a : WorkerSeat) → k < at → FindsRoom (get_or limits k d) (get_or olds k b) (get_or xs k a))
+    → (k d : ℕ) (b a : WorkerSeat) → k < at + 1 → FindsRoom (get_or limits k d) (get_or olds k b) (get_or (set xs at new) k a)
+found_next rings limits olds xs at s new at_rings many kept inside later one before =
+    let lens = zip_length IsAt rings olds at_rings in
+    found_more limits olds xs at s new (omega (arith, many, inside)) (omega (arith, lens, inside)) (omega (arith, kept, lens, inside))
+    (subst (λ p. FindsRoom (get_or limits at 0) p new) (later at s (omega arith)) one) before
+
+-- the seats of the later rings are unchanged
+pub later_next : (olds xs : List WorkerSeat) (at : ℕ) (new : WorkerSeat) → ((k : ℕ) (b : WorkerSeat) → at ≤ k → get_or xs k b ≡ get_or olds k b) → (k : ℕ) (b : WorkerSeat) → at + 1 ≤ k → get_or (set xs at new) k b ≡ get_or olds k b
+later_next olds xs at new later k b le = get_or-set_other xs at k new b (omega (arith, le)) ∙ later k b (omega (arith, le))
+
 -- a list that was lent as a whole contains what was written to it
 pub lent_whole : {A : Type 0} (len : ℕ) (new items : List A) → length new ≡ len → take len (new ++ drop (length new) items) ≡ new
 lent_whole len new items e = subst (λ n. take n (new ++ drop (length new) items) ≡ new) e (take-append_seam new (drop (length new) items))

@@ -1,9 +1,7 @@
-use Rattle.std.proofs.Common.{◌∙◌, arith, get_or, subst, sym}
-use Rattle.std.proofs.lemmas.List.{get_or-set_other}
+use Rattle.std.proofs.Common.{arith, rules, get_or, subst, sym}
 use Rattle.rb_jobs.specs.SeatHelpers.{IsAt}
 use Rattle.rb_jobs.proofs.Lists.{zip_at, zip_length}
-use Rattle.rb_stream_worker.specs.Turns.{FindsRoom}
-use Rattle.rb_stream_worker.proofs.TakenTurns.{found_more}
+use Rattle.rb_stream_worker.proofs.TakenTurns.{found_next, later_next}
 use Rattle.rb_stream_worker.proofs.looks.wait_for_all.Goals as goal
 
 pub bounds-seats-at : goal.bounds-seats-at
@@ -18,21 +16,7 @@ wait_for_room-requires g c =
     record { at = subst (IsAt r) (sym (c.loop-at.invariant.later at s (omega arith))) (subst (λ y. IsAt y (get_or c.args.seats.now at s)) (sym c.index-rings-at.is) there) }
 
 pub loop-at-preserved : goal.loop-at-preserved
-loop-at-preserved g c =
-    let at = c.loop-at.at in
-    let s = c.index-seats-at.result in
-    let new = c.wait_for_room.new.seat in
-    let lens = zip_length IsAt c.args.rings.now c.args.seats.now c.requires.at_rings in
-    let kept = c.loop-at.auto.seats in
-    let inside = c.loop-at-test.true in
-    let limits = c.requires.limits in
-    let one = subst (λ p. FindsRoom (get_or c.args.limits.now at 0) p new) (c.loop-at.invariant.later at s (omega arith)) c.wait_for_room.ensures.found in
-    record {
-      later = λ k b le. get_or-set_other c.loop-at.seats at k new b (omega (arith, le)) ∙ c.loop-at.invariant.later k b (omega (arith, le));
-      found =
-          found_more c.args.limits.now c.args.seats.now c.loop-at.seats at s new (omega (arith, limits, inside)) (omega (arith, lens, inside)) (omega (arith, kept, lens, inside)) one
-          c.loop-at.invariant.found;
-    }
+loop-at-preserved g c = search (rules, found_next, later_next)
 
 pub returns : goal.returns
 returns g c =
