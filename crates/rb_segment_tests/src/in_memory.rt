@@ -37,6 +37,13 @@ fn written(alloc: Global, plan: SegmentPlan, count: u8) -> Result<MemoryStore, F
     Ok(writer.finish().0)
 }
 
+// A writer that goes on with the segments of a store.
+fn restarted(alloc: Global, before: MemoryStore) -> Result<MemoryWriter, Fail> {
+    let mut store = MemoryStore::new(alloc);
+    store.closed = before.closed;
+    Ok(SegmentWriter::open(alloc, store, 4096, 0, PLAN)?)
+}
+
 // The positions of the segments, and their lengths.
 fn shapes(alloc: Global, store: &MemoryStore) -> Result<Vec<(u64, usize)>, Fail> {
     let mut shapes = Vec::new(alloc);
@@ -64,12 +71,13 @@ fn segments_are_named_by_their_first_positions(rt: HostRuntime) -> Result<(), Fa
         [(0, 72), (72, 72), (144, 48)].as_slice()
     );
     let bytes = joined(rt.alloc(), &store)?;
-    let mut next = 0;
+    let (mut next, mut byte) = (0, 0u8);
     for record in Tape::new(bytes.as_slice(), 4096, 0)? {
         assert!(rt;
-            matches!(record, Ok(found) if found.pos == next && found.bytes == [(next / 24) as u8; 16].as_slice())
+            matches!(record, Ok(found) if found.pos == next && found.bytes == [byte; 16].as_slice())
         );
         next += 24;
+        byte = byte.wrapping_add(1);
     }
     assert_eq!(rt; next, 192);
     Ok(())
@@ -102,7 +110,7 @@ fn a_restart_goes_on_after_the_last_whole_record(rt: HostRuntime) -> Result<(), 
         if let Some(last) = store.closed.back_mut() {
             last.bytes.truncate(cut);
         }
-        let mut writer: MemoryWriter = SegmentWriter::open(alloc, store, 4096, 0, PLAN)?;
+        let mut writer = restarted(alloc, store)?;
         let whole = cut / 24 * 24;
         assert_eq!(rt; writer.position(), 144 + whole as u64);
         put(&mut writer, 99);
