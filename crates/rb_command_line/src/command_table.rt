@@ -196,7 +196,7 @@ const PROGRESS: OptionRow = OptionRow {
 const PORTABLE: OptionRow = OptionRow {
     name: "portable",
     shape: OptionShape::Flag,
-    help: "Print a line for each unit at which Linux refuses the program",
+    help: "Print a line for each unit that Linux has a known reason to refuse",
 };
 
 const DRAW: OptionRow = OptionRow {

@@ -1,7 +1,7 @@
 //! Executes the program's commands.
 
 ghost use Rattle.std.specs.Prelude.{◌≡◌, ◌≤◌, OnOk};
-ghost use Rattle.std.specs.Io.KnownBytes.{Keeps};
+ghost use Rattle.std.specs.Io.KnownBytes.{Appends, Keeps};
 ghost use Rattle.rb_history.specs.RingModel.{IsRingSize, IsStartPosition};
 ghost use Rattle.rb_tape_commands.specs.inner.PayloadSteps.{IsWholeInput};
 
@@ -201,7 +201,9 @@ fn and_told<E: Write>(
     answer: Result<Option<(u64, u64)>, CommandRefusal>,
     told: &[u8],
     err: &mut E,
-) -> Result<Option<(u64, u64)>, CommandRefusal> {
+) -> Result<Option<(u64, u64)>, CommandRefusal>
+    ensures written { OnOk result (Appends (E.contents err.old) (E.contents err.new) told.now) }
+{
     if told.is_empty() || write_whole(err, told).is_ok() || answer.is_err() {
         return answer;
     }
