@@ -72,6 +72,8 @@ mod chapter;
 mod chapter_laws;
 mod chapter_state;
 mod counting;
+mod entries;
+mod entry_words;
 mod faults;
 mod finding;
 mod grant;
@@ -90,6 +92,7 @@ mod standing_lists;
 
 pub use chapter::{COUNT_LIMIT, Chapter};
 pub use chapter_laws::{calls_are_alike, chapters_join, counted_from_the_opening, room_is_kept};
+pub use entries::Entries;
 pub use faults::{OpenFault, ReserveFault};
 pub use hand_laws::{book_goes_on, each_call_keeps_hands, one_hand_changes};
 pub use hand_state::HandState;
