@@ -76,7 +76,6 @@ mod entries;
 mod entry_words;
 mod faults;
 mod finding;
-mod grant;
 mod hand_laws;
 mod hand_state;
 mod hand_table;
