@@ -40,6 +40,6 @@ returns-in-Ok-clause-out c =
     let free = subst (λ (s : HandRing). IsFree (hands_of s.hands c.args.worker) c.args.hand) (sym c.self.view_is) c.requires.hand in
     let long = ap length c.in-Ok.ensures.zeros ∙ length-replicate c.args.n 0 in
     let here = hand-here c.self.inside.ring.chapter.opening.setup.workers c.self.inside.hands.items c.self.invariant.has.shaped c.args.worker c.args.hand low free.below (Some (out_record r.pos r.serial c.args.n)) in
-    (λ i. hand_at (c.set_hand.ensures.set i) (c.in-Ok.ensures.worker i) c.args.hand)
+    (λ i. hand_at (c.set_hand.ensures.set i) (c.in-Ok.ensures.worker i) (c.in-Ok.ensures.hand i))
     ∙ (λ i. hand_at (with_hand c.self.inside.hands.items c.args.worker c.args.hand (Some (out_record (c.pos.ensures.pos i) (c.serial.ensures.serial i) c.args.n))) c.args.worker c.args.hand)
     ∙ here ∙ ap (λ m. Some (out_record r.pos r.serial m)) (sym long)
