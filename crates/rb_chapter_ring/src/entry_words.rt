@@ -14,8 +14,11 @@ use rb_history::{Entry, Tally, span};
 // The kinds of entries that name a record by its position: the two lowest bits of their words. Both bits of any other
 // word are 0, and its third bit is 1 for a grant.
 const SUBMIT: u64 = 1;
+
 const DISCARD: u64 = 2;
+
 const TAKE: u64 = 3;
+
 const GRANT: u64 = 4;
 
 #[inline(always)]

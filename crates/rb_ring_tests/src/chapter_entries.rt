@@ -18,6 +18,7 @@ const FIRST: [Entry; 6] = [
     Entry::Full(3, 4096),
     Entry::Take(START),
 ];
+
 const SECOND: [Entry; 6] = [
     Entry::Res(255, 2, 0, START + 4024),
     Entry::Sub(START + 4024),
