@@ -152,7 +152,8 @@ fn grant<A: Abort, H: Helpers>(rt: &A, helpers: &mut H, n: u32)
     requires room { 0 < H.room_of helpers.old }
     requires ring { H.has_ring helpers.old 0 ≡ true }
     ensures room { H.room_of helpers.new + 1 ≡ H.room_of helpers.old }
-    ensures rings { H.has_ring helpers.new ≡ H.has_ring helpers.old }
+    ensures ring { H.has_ring helpers.new 0 ≡ true }
+    ensures other { H.has_ring helpers.new 1 ≡ H.has_ring helpers.old 1 }
 {
     let is_granted = helpers.reserve(0, n, 0).is_some();
     same(rt, &is_granted, &true);
