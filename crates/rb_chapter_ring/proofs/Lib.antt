@@ -44,3 +44,4 @@ pub mod StateSteps
 pub mod Written
 pub mod Numbers
 pub mod Ordinals
+pub mod EntryWords

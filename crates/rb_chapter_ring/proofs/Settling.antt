@@ -14,7 +14,7 @@ use Rattle.rb_history.specs.StoredRecords.{entries_owed}
 use Rattle.rb_history.specs.inner.RecordRows.{HistoryFacts}
 use Rattle.rb_history.specs.inner.TallySteps.{tally_with_entry as tally_with}
 use Rattle.rb_history.proofs.Laws.{KeptAs, kept-from-legal}
-use Rattle.rb_history.proofs.Row.{InRow-le}
+use Rattle.rb_history.proofs.Row.{InRow-le, at-least, below-end}
 use Rattle.rb_history.proofs.Steps.{Named}
 use Rattle.rb_history.proofs.Kept.{legal-push, kept-sub, kept-dis, kept-take, named-at, busy-settles}
 use Rattle.rb_history.proofs.RecordWorkers.{record-from, record-unique}
@@ -229,6 +229,16 @@ module _ (earlier : List Entry) (c : Chapter) (kept : IsKept earlier c) (closing
 
     pub worker-fits : (record_in closing i).worker < closing.setup.workers
     worker-fits = subst (λ (o : Standing). (record_in o i).worker < o.setup.workers) (sym at-end) (worker-low c.opening.setup whole whole-legal i within held)
+
+    -- its position is below the limit
+    pub position-low : (record_in closing i).pos < 2 ^ 62
+    position-low =
+        let r = c.opening.setup in
+        let k = kept-from-legal r whole whole-legal in
+        let below = below-end (consumer_of r.start whole) (records whole) (producer_of r.start whole) i no_record k.in_row within in
+        let above = at-least (consumer_of r.start whole) (records whole) (producer_of r.start whole) i no_record k.in_row within in
+        let limit = limited r whole whole-legal (omega (arith, below, above)) in
+        omega (arith, below, limit, ap (λ (s : Shown). s.pos) same-at)
 
     -- the worker committed at most as many records as it was granted, so few that the totals fit
     pub few : (tally_at closing (record_in closing i).worker).submitted + (tally_at closing (record_in closing i).worker).discarded < 2 ^ 62

@@ -6,6 +6,7 @@ pub mod Standing
 pub mod StandingValue
 pub mod CountedFrom
 pub mod Chapters
+pub mod ChapterEntries
 pub mod ChapterRoom
 pub mod ChapterRing
 pub mod ChapterCalls

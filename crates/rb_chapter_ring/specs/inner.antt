@@ -1,5 +1,6 @@
 pub mod StandingNumbers
 pub mod StandingBody
+pub mod EntryWords
 pub mod ChapterBody
 pub mod EndSteps
 pub mod StandingSteps

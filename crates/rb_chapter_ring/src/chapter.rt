@@ -11,9 +11,11 @@ ghost use Rattle.rb_chapter_ring.specs.CountedFrom.{HasRoomFrom, grants_from, pr
 ghost use Rattle.rb_chapter_ring.specs.WholeHistory.{IsKept};
 ghost use Rattle.rb_chapter_ring.specs.RecordEnds.{entry_of_end};
 
+use crate::entries::Entries;
+use crate::entry_words::{end_word, grant_word, refusal_word, take_word};
 use crate::record_end::RecordEnd;
 use crate::standing::Standing;
-use rb_history::{Entry, POSITION_LIMIT, span};
+use rb_history::{POSITION_LIMIT, span};
 use std::alloc::{AllocError, Global};
 use std::marker::Model;
 
@@ -26,7 +28,8 @@ pub struct Chapter {
     number: u64,
     room: u32,
     opening: Standing,
-    entries: Vec<Entry>,
+    // The entries, eight bytes each.
+    words: Vec<u64>,
     // The summary at its end, and how many entries it owes then. Both are stored, so that neither has to be computed
     // from the entries.
     closing: Standing,
@@ -64,7 +67,7 @@ impl Chapter {
             number: 0,
             room,
             opening: Standing::of_zeros(alloc, room, workers)?,
-            entries: Vec::with_capacity(alloc, room as usize)?,
+            words: Vec::with_capacity(alloc, room as usize)?,
             closing: Standing::of_zeros(alloc, room, workers)?,
             owed: 0,
         })
@@ -75,15 +78,15 @@ impl Chapter {
     pub fn try_clone(&self, alloc: Global) -> Result<Chapter, AllocError>
         ensures same { IfOk result (λ c. c ≡ self.now) }
     {
-        let mut entries = Vec::with_capacity(alloc, self.room as usize)?;
-        entries.extend_from_slice(self.entries.as_slice())?;
+        let mut words = Vec::with_capacity(alloc, self.room as usize)?;
+        words.extend_from_slice(self.words.as_slice())?;
         let opening = self.opening.try_clone(alloc, self.room)?;
         let closing = self.closing.try_clone(alloc, self.room)?;
         Ok(Chapter {
             number: self.number,
             room: self.room,
             opening,
-            entries,
+            words,
             closing,
             owed: self.owed,
         })
@@ -105,7 +108,7 @@ impl Chapter {
     {
         self.number = 0;
         self.opening.begin(size, start);
-        self.entries.clear();
+        self.words.clear();
         self.closing.begin(size, start);
         self.owed = 0;
     }
@@ -138,7 +141,7 @@ impl Chapter {
         ensures logged { self.new ≡ with_entry self.old (Full worker len) }
     {
         self.closing.add_refusal(worker);
-        log(&mut self.entries, Entry::Full(worker, len));
+        log(&mut self.words, refusal_word(worker, len));
     }
 
     /// Logs a grant: the worker is granted the next record, of `len` bytes, at the producer position. Takes constant
@@ -149,12 +152,10 @@ impl Chapter {
         requires chapter_room { MayGrant self.old }
         ensures logged { self.new ≡ with_entry self.old (Res worker (grants_from self.old.opening worker self.old.entries) len (producer_from self.old.opening self.old.entries)) }
     {
-        let record = self.closing.add_grant(worker, len);
+        let serial = self.closing.add_grant(worker, len);
+        let later = serial - self.opening.tally(worker).made;
         self.owed += 2;
-        log(
-            &mut self.entries,
-            Entry::Res(worker, record.serial, len, record.pos),
-        );
+        log(&mut self.words, grant_word(worker, later, len));
     }
 
     #[inline(always)]
@@ -165,7 +166,7 @@ impl Chapter {
         ensures logged { self.new ≡ with_entry self.old (entry_of_end end (record_now self.old index).pos) }
     {
         let pos = self.closing.add_end(index, end);
-        log_owed(&mut self.entries, &mut self.owed, end.entry(pos));
+        log_owed(&mut self.words, &mut self.owed, end_word(end, pos));
     }
 
     /// Logs a take of the record at the front, which was submitted or discarded. Takes constant time and does not
@@ -175,7 +176,7 @@ impl Chapter {
         ensures logged { self.new ≡ with_entry self.old (Take (consumer_from self.old.opening self.old.entries)) }
     {
         let pos = self.closing.add_take();
-        log_owed(&mut self.entries, &mut self.owed, Entry::Take(pos));
+        log_owed(&mut self.words, &mut self.owed, take_word(pos));
     }
 
     /// States the invariant of a chapter: it is legal from its opening, which is the summary of a legal history, and it
@@ -183,7 +184,7 @@ impl Chapter {
     pub fn facts(&self)
         ensures kept { (earlier : List Entry) × IsKept earlier self.now }
     {
-        let _ = &self.entries;
+        let _ = &self.words;
     }
 
     /// Returns the chapter's number, counted from 0.
@@ -221,7 +222,7 @@ impl Chapter {
     pub fn used(&self) -> u32
         ensures used { result ≡ used self.now }
     {
-        self.entries.len() as u32
+        self.words.len() as u32
     }
 
     /// Returns how many entries its untaken records will still log: two for each busy one, its commit and its take, and
@@ -273,33 +274,37 @@ impl Chapter {
         self.closing.is_same(&next.opening)
     }
 
-    /// Returns the entries, the oldest first.
-    pub fn entries(&self) -> &[Entry]
-        ensures entries { result.now ≡ self.now.entries }
+    /// Returns the entries, the oldest first. Takes constant time.
+    pub fn entries(&self) -> Entries<'_>
+        ensures entries { result ≡ self.now.entries }
     {
-        self.entries.as_slice()
+        Entries {
+            words: self.words.as_slice(),
+            tallies: self.opening.tallies(),
+            producer: self.opening.numbers().producer,
+        }
     }
 }
 
-// Appends the entry. Does not allocate.
-fn log(entries: &mut Vec<Entry>, entry: Entry)
-    requires space { vec_len entries.old < vec_capacity entries.old }
-    ensures logged { entries.new.items ≡ entries.old.items ++ entry ∷ [] }
-    ensures space { vec_capacity entries.old ≤ vec_capacity entries.new }
+// Appends an entry's word. Does not allocate.
+fn log(words: &mut Vec<u64>, word: u64)
+    requires space { vec_len words.old < vec_capacity words.old }
+    ensures logged { words.new.items ≡ words.old.items ++ word ∷ [] }
+    ensures space { vec_capacity words.old ≤ vec_capacity words.new }
 {
-    entries.push_reserved(entry);
+    words.push_reserved(word);
 }
 
-// Appends an entry that was owed. Does not allocate.
-fn log_owed(entries: &mut Vec<Entry>, owed: &mut u32, entry: Entry)
+// Appends the word of an entry that was owed. Does not allocate.
+fn log_owed(words: &mut Vec<u64>, owed: &mut u32, word: u64)
     requires owing { 0 < owed.old }
-    requires space { vec_len entries.old < vec_capacity entries.old }
-    ensures logged { entries.new.items ≡ entries.old.items ++ entry ∷ [] }
-    ensures space { vec_capacity entries.old ≤ vec_capacity entries.new }
+    requires space { vec_len words.old < vec_capacity words.old }
+    ensures logged { words.new.items ≡ words.old.items ++ word ∷ [] }
+    ensures space { vec_capacity words.old ≤ vec_capacity words.new }
     ensures owing { owed.new ≡ owed.old - 1 }
 {
     *owed -= 1;
-    log(entries, entry);
+    log(words, word);
 }
 
 // Returns whether a record of `len` bytes may be granted at the producer position.

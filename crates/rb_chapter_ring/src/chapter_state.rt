@@ -23,8 +23,8 @@ mod handing_out;
 use crate::counting::{count_discard, count_refusal};
 use crate::faults::{OpenFault, ReserveFault};
 use crate::finding::{find_front, keep_bytes, slot_in};
-use crate::grant::Grant;
 use crate::record_end::RecordEnd;
+use crate::reservation::Reservation;
 use crate::setup::{check_setup, empty_sheets, made_by, slots_for};
 use crate::{Chapter, UntakenStatus};
 use rb_history::{
@@ -158,25 +158,29 @@ impl ChapterState {
 
     #[inline(always)]
     /// Grants worker `worker` a record of `n` bytes, all zeros, at the producer position, if the ring has room for it
-    /// and the chapter for all entries that it will log. The record uses `sheet`, which must have `n` bytes and is
-    /// cleared. (bpf-helpers(7), bpf_ringbuf_reserve.)
+    /// and the chapter for all entries that it will log. The reservation names this tag and this hand. The record uses
+    /// `sheet`, which must have `n` bytes and is cleared. (bpf-helpers(7), bpf_ringbuf_reserve.)
     ///
     /// `Full` is logged: the ring has no room. `ChapterFull` changes nothing: the chapter has no room for the entries
     /// that would be logged. A refusal returns the sheet. Takes constant time, except for clearing the bytes, and does
     /// not allocate.
     pub(crate) fn reserve(
         &mut self,
+        tag: u64,
         worker: u32,
+        hand: u32,
         n: u32,
         sheet: Sheet,
-    ) -> Result<Grant, (ReserveFault, Sheet)>
+    ) -> Result<Reservation, (ReserveFault, Sheet)>
         requires worker { worker < self.old.chapter.opening.setup.workers }
         requires sized { length sheet ≡ n }
         ensures same_chapter { IsSameChapter self.old self.new }
-        ensures granted { IfOk result (λ r. GrantsByChapter self.old self.new worker n r.pos r.serial) }
-        ensures worker { IfOk result (λ r. r.worker ≡ worker) }
-        ensures zeros { IfOk result (λ r. r.bytes ≡ replicate n 0) }
-        ensures number { IfOk result (λ r. HasOrdinal (closing_of self.new.chapter) r.pos (taken_before (closing_of self.old.chapter) + length (closing_of self.old.chapter).records)) }
+        ensures granted { IfOk result (λ r. GrantsByChapter self.old self.new worker n r.granted.pos r.granted.serial) }
+        ensures tag { IfOk result (λ r. r.tag ≡ tag) }
+        ensures hand { IfOk result (λ r. r.hand ≡ hand) }
+        ensures worker { IfOk result (λ r. r.granted.worker ≡ worker) }
+        ensures zeros { IfOk result (λ r. r.granted.bytes ≡ replicate n 0) }
+        ensures number { IfOk result (λ r. HasOrdinal (closing_of self.new.chapter) r.granted.pos (taken_before (closing_of self.old.chapter) + length (closing_of self.old.chapter).records)) }
         ensures numbers { KeepsNumbers self.old.chapter self.new.chapter }
         ensures refused { IfErr result (λ e. RefusesInChapter self.old self.new worker n e.0) }
         ensures known_flags { IfErr result (λ e. e.0 ≢ ReserveFault.Flags) }
@@ -187,34 +191,41 @@ impl ChapterState {
             Err(fault) => Err((fault, sheet)),
             Ok((pos, serial)) => {
                 sheet.clear();
-                Ok(Grant::new(pos, worker, serial, sheet))
+                Ok(Reservation {
+                    tag,
+                    hand,
+                    pos,
+                    worker,
+                    serial,
+                    sheet,
+                })
             }
         }
     }
 
     #[inline(always)]
-    /// Commits the granted record, which is at this index, as `end` says: its bytes go to the consumer, or the consumer
-    /// will skip it. The record is busy, so it is never refused. (bpf-helpers(7), bpf_ringbuf_submit and
+    /// Commits the reservation's record, which is at this index, as `end` says: its bytes go to the consumer, or the
+    /// consumer will skip it. The record is busy, so it is never refused. (bpf-helpers(7), bpf_ringbuf_submit and
     /// bpf_ringbuf_discard.)
     ///
     /// Only bits 0 and 1 of the flags are used. Takes constant time and does not allocate.
     pub(crate) fn settle(
         &mut self,
         index: usize,
-        grant: Grant,
+        reservation: Reservation,
         end: RecordEnd,
         flags: u64,
     ) -> Notice
-        requires busy { HoldsReservationFrom self.old grant }
-        requires here { IsBusyAt self.old.shown index grant.pos (length grant.bytes) }
+        requires busy { HoldsReservationFrom self.old reservation.granted }
+        requires here { IsBusyAt self.old.shown index reservation.granted.pos (length reservation.granted.bytes) }
         ensures same_chapter { IsSameChapter self.old self.new }
-        ensures ended { Ends end grant self.old self.new }
-        ensures notice { (result ≡ Notice.Due) ↔ IsDue (consumer_by_chapter self.old) grant.pos flags }
+        ensures ended { Ends end reservation.granted self.old self.new }
+        ensures notice { (result ≡ Notice.Due) ↔ IsDue (consumer_by_chapter self.old) reservation.granted.pos flags }
         ensures numbers { KeepsNumbers self.old.chapter self.new.chapter }
     {
-        let pos = grant.pos();
+        let pos = reservation.pos();
         let notice = self.notice(pos, flags);
-        self.log_end(index, pos, grant.into_sheet(), end);
+        self.log_end(index, pos, reservation.into_sheet(), end);
         notice
     }
 

@@ -23,7 +23,6 @@ ghost use Rattle.rb_chapter_ring.specs.RecordEnds.{EndsFromHand};
 
 use crate::chapter_state::ChapterState;
 use crate::faults::{OpenFault, ReserveFault};
-use crate::grant::Grant;
 use crate::hand_table::{free_table, no_ordinals, set_hand, set_ordinal};
 use crate::record_end::RecordEnd;
 use crate::reservation::Reservation;
@@ -227,17 +226,17 @@ impl HandState {
         let ring = &self.ring;
         ring.facts();
         let ordinal = ring.next_ordinal();
-        match self.ring.reserve(worker, n, sheet) {
+        match self.ring.reserve(tag, worker, hand, n, sheet) {
             Err(refused) => Err(refused),
-            Ok(grant) => {
+            Ok(reservation) => {
                 let out = OutRecord {
-                    pos: grant.pos(),
-                    serial: grant.serial(),
+                    pos: reservation.pos(),
+                    serial: reservation.serial(),
                     len: n,
                 };
                 set_hand(&mut self.hands, worker, hand, Some(out));
                 set_ordinal(&mut self.ordinals, worker, hand, ordinal);
-                Ok(Reservation { tag, hand, grant })
+                Ok(reservation)
             }
         }
     }
@@ -256,23 +255,23 @@ impl HandState {
     {
         let ring = &self.ring;
         ring.facts();
-        let Reservation { hand, grant, .. } = reservation;
-        let worker = grant.worker();
-        let index = self.index_in(hand, &grant);
-        let notice = self.ring.settle(index, grant, end, flags);
+        let worker = reservation.worker();
+        let hand = reservation.hand();
+        let index = self.index_in(&reservation);
+        let notice = self.ring.settle(index, reservation, end, flags);
         set_hand(&mut self.hands, worker, hand, None);
         notice
     }
 
     #[inline(always)]
-    // Returns the index of the record in the hand, among the untaken ones.
-    fn index_in(&self, hand: u32, grant: &Grant) -> usize
-        requires out { HasInHand self.now hand grant.now }
-        ensures here { IsBusyAt self.now.ring.shown result grant.now.pos (length grant.now.bytes) }
+    // Returns the index of the reservation's record, which is in its hand, among the untaken ones.
+    fn index_in(&self, reservation: &Reservation) -> usize
+        requires out { HasInHand self.now reservation.now.hand reservation.now.granted }
+        ensures here { IsBusyAt self.now.ring.shown result reservation.now.granted.pos (length reservation.now.granted.bytes) }
     {
         let ring = &self.ring;
         ring.facts();
-        let ordinal = self.ordinals[grant.worker() as usize][hand as usize];
+        let ordinal = self.ordinals[reservation.worker() as usize][reservation.hand() as usize];
         (ordinal - ring.taken()) as usize
     }
 

@@ -2,10 +2,9 @@
 
 ghost use Rattle.std.specs.Prelude.{◌≡◌};
 ghost use Rattle.rb_chapter_ring.specs.UntakenRecords.{status_shown};
-ghost use Rattle.rb_chapter_ring.specs.RecordEnds.{entry_of_end, status_of_end};
+ghost use Rattle.rb_chapter_ring.specs.RecordEnds.{status_of_end};
 
 use crate::UntakenStatus;
-use rb_history::Entry;
 
 /// What a commit does with the record: the argument `discard` of bpf_ringbuf_commit (Linux kernel/bpf/ringbuf.c).
 #[derive(Clone, Copy, PartialEq, Eq)]
@@ -25,17 +24,6 @@ impl RecordEnd {
         match self {
             RecordEnd::Submit => UntakenStatus::Waiting,
             RecordEnd::Discard => UntakenStatus::Discarded,
-        }
-    }
-
-    #[inline(always)]
-    /// Returns the entry that is logged for the record at this position.
-    pub(crate) fn entry(self, pos: u64) -> Entry
-        ensures entry { result ≡ entry_of_end self pos }
-    {
-        match self {
-            RecordEnd::Submit => Entry::Sub(pos),
-            RecordEnd::Discard => Entry::Dis(pos),
         }
     }
 }

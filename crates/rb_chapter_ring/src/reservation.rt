@@ -4,8 +4,7 @@ ghost use Rattle.std.specs.Prelude.{◌≡◌, ◌↔◌, IsTrue, Some, length};
 ghost use Rattle.rb_chapter_ring.specs.Hands.{in_hand, out_record};
 
 use crate::OutRecord;
-use crate::grant::Grant;
-use rb_lend::Lent;
+use rb_lend::{Lent, Sheet};
 use std::marker::Model;
 
 /// The right to write a record's bytes, and to submit or discard it, at the ring with this tag and from this hand of
@@ -17,7 +16,10 @@ use std::marker::Model;
 pub struct Reservation {
     pub(crate) tag: u64,
     pub(crate) hand: u32,
-    pub(crate) grant: Grant,
+    pub(crate) pos: u64,
+    pub(crate) worker: u32,
+    pub(crate) serial: u64,
+    pub(crate) sheet: Sheet,
 }
 
 impl Model for Reservation {
@@ -25,7 +27,7 @@ impl Model for Reservation {
 
     ghost Value = { HandGranted };
 
-    ghost view = { λ r. record { tag = r.tag; hand = r.hand; granted = r.grant } };
+    ghost view = { λ r. record { tag = r.tag; hand = r.hand; granted = record { pos = r.pos; worker = r.worker; serial = r.serial; bytes = r.sheet } } };
 }
 
 impl Reservation {
@@ -50,7 +52,7 @@ impl Reservation {
     pub fn pos(&self) -> u64
         ensures pos { result ≡ self.now.granted.pos }
     {
-        self.grant.pos()
+        self.pos
     }
 
     #[inline(always)]
@@ -58,7 +60,7 @@ impl Reservation {
     pub fn worker(&self) -> u32
         ensures worker { result ≡ self.now.granted.worker }
     {
-        self.grant.worker()
+        self.worker
     }
 
     #[inline(always)]
@@ -66,7 +68,7 @@ impl Reservation {
     pub fn serial(&self) -> u64
         ensures serial { result ≡ self.now.granted.serial }
     {
-        self.grant.serial()
+        self.serial
     }
 
     #[inline(always)]
@@ -74,7 +76,16 @@ impl Reservation {
     pub fn len(&self) -> u32
         ensures len { result ≡ length self.now.granted.bytes }
     {
-        self.grant.len()
+        self.sheet.len()
+    }
+
+    #[inline(always)]
+    /// Returns the record's sheet, with the bytes that were written.
+    pub(crate) fn into_sheet(self) -> Sheet
+        ensures value { result ≡ self.granted.bytes }
+    {
+        let Reservation { sheet, .. } = self;
+        sheet
     }
 
     #[inline(always)]
@@ -107,17 +118,17 @@ impl Lent for Reservation {
 
     #[inline(always)]
     fn bytes(&self) -> &[u8] {
-        self.grant.sheet.bytes()
+        self.sheet.bytes()
     }
 
     #[inline(always)]
     fn bytes_mut(&mut self) -> &mut [u8] {
-        self.grant.sheet.bytes_mut()
+        self.sheet.bytes_mut()
     }
 
     #[inline(always)]
     fn range_mut(&mut self, at: usize, len: usize) -> &mut [u8] {
-        self.grant.sheet.range_mut(at, len)
+        self.sheet.range_mut(at, len)
     }
 
     ghost rewritten = { λ s w e. rewritten_in_place s.granted.bytes w e };

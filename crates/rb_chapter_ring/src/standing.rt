@@ -6,7 +6,7 @@ ghost use Rattle.rb_chapter_ring.specs.Standing.{no_record, no_tally, record_in,
 ghost use Rattle.rb_chapter_ring.specs.StandingValue.{StandingValue};
 ghost use Rattle.rb_chapter_ring.specs.Chapters.{empty_ring};
 ghost use Rattle.rb_chapter_ring.specs.UntakenRecords.{untaken_shown};
-ghost use Rattle.rb_chapter_ring.specs.inner.StandingSteps.{with_refusal, with_grant, next_record, with_end, with_take};
+ghost use Rattle.rb_chapter_ring.specs.inner.StandingSteps.{with_refusal, with_grant, with_end, with_take};
 
 mod numbers;
 
@@ -144,8 +144,8 @@ impl Standing {
         count_refused(self.tallies.as_mut_slice(), worker);
     }
 
-    // Adds the record of `len` bytes that the worker is granted next, and returns it.
-    pub(crate) fn add_grant(&mut self, worker: u32, len: u32) -> UntakenRecord
+    // Adds the record of `len` bytes that the worker is granted next, and returns its serial.
+    pub(crate) fn add_grant(&mut self, worker: u32, len: u32) -> u64
         requires worker { worker < self.old.opening.setup.workers }
         requires total { (tally_at self.old.opening worker).made < 2 ^ 62 }
         requires limit { self.old.opening.producer + span len ≤ 2 ^ 62 }
@@ -153,18 +153,18 @@ impl Standing {
         ensures added { self.new.opening ≡ with_grant worker len self.old.opening }
         ensures room { self.old.room ≤ self.new.room }
         ensures passed { self.new.passed ≡ self.old.passed }
-        ensures record { untaken_shown result ≡ next_record worker len self.old.opening }
+        ensures serial { result ≡ (tally_at self.old.opening worker).made }
     {
-        let record = UntakenRecord {
+        let serial = count_made(self.tallies.as_mut_slice(), worker);
+        self.records.push_reserved(UntakenRecord {
             pos: self.numbers.producer,
             len,
             worker,
-            serial: count_made(self.tallies.as_mut_slice(), worker),
+            serial,
             status: UntakenStatus::Busy,
-        };
-        self.records.push_reserved(record);
+        });
         self.numbers.producer += span(len);
-        record
+        serial
     }
 
     #[inline(always)]

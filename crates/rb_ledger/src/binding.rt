@@ -167,8 +167,8 @@ fn join_entries(
 {
     let mut history = Vec::new(alloc);
     for chapter in chapters {
-        history.extend_from_slice(chapter.entries())?;
+        chapter.entries().append_to(&mut history)?;
     }
-    history.extend_from_slice(last.entries())?;
+    last.entries().append_to(&mut history)?;
     Ok(history)
 }

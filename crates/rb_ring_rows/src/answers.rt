@@ -1,7 +1,7 @@
 //! The answers of a ring's calls as text. Each word and number is preceded by a space.
 
 use crate::text::Text;
-use rb_chapter_ring::{Chapter, OpenFault, ReserveFault};
+use rb_chapter_ring::{Chapter, Entries, OpenFault, ReserveFault};
 use rb_for_tests::{PlainReservation, Stray};
 use rb_history::{Counts, Entry, Notice, SetupFault, Taken, Tally};
 use rb_ledger::BindFault;
@@ -102,6 +102,15 @@ pub(crate) fn tell_entries(out: &mut Text, entries: &[Entry]) {
     for entry in entries {
         out.push(";");
         tell_entry(out, *entry);
+    }
+}
+
+/// Appends the number of entries of a chapter, and each of them.
+pub(crate) fn tell_chapter(out: &mut Text, entries: Entries<'_>) {
+    out.number(entries.len() as u64);
+    for entry in entries {
+        out.push(";");
+        tell_entry(out, entry);
     }
 }
 

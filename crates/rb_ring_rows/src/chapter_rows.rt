@@ -1,6 +1,6 @@
 //! Rows on chapters, either those that a ring keeps or those that a script has by name.
 
-use crate::answers::{tell_entries, tell_handed_out, tell_numbers, tell_tally};
+use crate::answers::{tell_chapter, tell_handed_out, tell_numbers, tell_tally};
 use crate::row::RingRow;
 use crate::script::{RowScript, WRONG_WORDS, keep, narrow};
 use crate::text::Text;
@@ -135,7 +135,7 @@ fn tell(verb: &str, chapter: &Chapter, out: &mut Text) {
         "show" => tell_state(chapter, out),
         "opening" => tell_opening(chapter.opening(), out),
         "closing" => tell_opening(chapter.closing(), out),
-        "entries" => tell_entries(out, chapter.entries()),
+        "entries" => tell_chapter(out, chapter.entries()),
         _ => out.word(WRONG_WORDS),
     }
 }

@@ -14,9 +14,9 @@ use crate::twin_calls::{
     ChapterAnswer, end_in_chapter, end_in_list, opened_list, opened_ring, output_in_chapter,
     output_in_list, reserve_in_chapter, reserve_in_list, tell_opened,
 };
-use rb_chapter_ring::{Chapter, RecordEnd, Reservation, RingState, UntakenStatus};
+use rb_chapter_ring::{Chapter, Entries, RecordEnd, Reservation, RingState, UntakenStatus};
 use rb_for_tests::{PlainReservation, PlainRing};
-use rb_history::Taken;
+use rb_history::{Entry, Taken};
 use rb_ledger::bind_chapters;
 use rb_lend::Lent;
 use std::alloc::Global;
@@ -276,12 +276,26 @@ impl TwinRings {
     fn compare_histories(&self, out: &mut Text) {
         let entries = self.ring.chapter().entries();
         let history = self.list.history();
-        let all = self.handed_out.wrapping_add(entries.len() as u64);
-        if !history.ends_with(entries) || history.len() as u64 != all {
+        if !is_history_of(history, self.handed_out, entries) {
             out.word("differs in history");
             tell_entries(out, history);
         }
     }
+}
+
+// Returns whether the history has this many entries, followed by those of a chapter.
+fn is_history_of(history: &[Entry], before: u64, entries: Entries<'_>) -> bool {
+    if before.wrapping_add(entries.len() as u64) != history.len() as u64 {
+        return false;
+    }
+    let mut at = before as usize;
+    for entry in entries {
+        if at >= history.len() || history[at] != entry {
+            return false;
+        }
+        at = at.saturating_add(1);
+    }
+    true
 }
 
 // Returns the reservations of a record, if both rings granted it.

@@ -5,6 +5,8 @@
 #[cfg(test)]
 mod batches;
 #[cfg(test)]
+mod chapter_entries;
+#[cfg(test)]
 mod closing;
 #[cfg(test)]
 mod examples;

@@ -25,7 +25,7 @@ use std::alloc::Global;
 use std::io::Write;
 
 // The room of the ring's chapters, in entries. A payload logs three, so the ring switches chapters before each 86th
-// payload. The two chapters' entries take 16 KiB and stay in the processor's L1 cache.
+// payload. The two chapters' entries take 4 KiB and stay in the processor's L1 cache.
 const ROOM: u32 = 256;
 
 // Passes a payload through the ring to the tape. Returns its sheet (the byte buffer of a record).

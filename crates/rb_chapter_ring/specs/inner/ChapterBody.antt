@@ -1,5 +1,5 @@
 -- The meaning of a chapter's fields, and their invariant.
-use Rattle.std.specs.Prelude.{◌≡◌, ◌+◌, ◌*◌, ◌≤◌, List, length, vec_capacity}
+use Rattle.std.specs.Prelude.{ℕ, ◌≡◌, ◌+◌, ◌*◌, ◌≤◌, List, length, vec_capacity}
 use Rattle.rb_history.specs.declared.entries.Entry.{Entry}
 use Rattle.rb_history.specs.RingModel.{IsWorkerCount}
 use Rattle.rb_chapter_ring.specs.declared.chapter.Chapter.TheInside.{Inside}
@@ -7,9 +7,14 @@ use Rattle.rb_chapter_ring.specs.Standing.{Standing}
 use Rattle.rb_chapter_ring.specs.Chapters.{Chapter, IsChapterRoom, closing_of}
 use Rattle.rb_chapter_ring.specs.ChapterRoom.{owed}
 use Rattle.rb_chapter_ring.specs.WholeHistory.{IsKept}
+use Rattle.rb_chapter_ring.specs.inner.EntryWords.{entries_of}
+
+-- the entries of words, from an opening on
+abbrev pub entries_in : Standing → List ℕ → List Entry
+entries_in o words = entries_of o.tallies o.producer words
 
 abbrev pub chapter_shown : Inside → Chapter
-chapter_shown a = record { number = a.number; room = a.room; opening = a.opening.opening; entries = a.entries.items }
+chapter_shown a = record { number = a.number; room = a.room; opening = a.opening.opening; entries = entries_in a.opening.opening a.words.items }
 
 -- the consumer position is at least a header's eight bytes for each record that was taken
 abbrev pub IsBehindTakes : Standing → Type 0
@@ -21,10 +26,10 @@ IsBehindTakes o = 8 * (o.consumed + o.skipped) ≤ o.consumer
 pub record ChapterInvariant (a : Inside) : Type 0 where
   pub room : IsChapterRoom a.room
   pub workers : IsWorkerCount a.opening.opening.setup.workers
-  pub space : a.room ≤ vec_capacity a.entries
+  pub space : a.room ≤ vec_capacity a.words
   pub opening_space : a.room ≤ a.opening.room
   pub closing_space : a.room ≤ a.closing.room
-  pub passed : a.closing.passed + length a.closing.opening.records ≤ length a.entries.items + a.owed
+  pub passed : a.closing.passed + length a.closing.opening.records ≤ length a.words.items + a.owed
   pub takes : IsBehindTakes a.closing.opening
   pub closing_is : a.closing.opening ≡ closing_of (chapter_shown a)
   pub owed_is : a.owed ≡ owed (chapter_shown a)

@@ -14,7 +14,7 @@ pub(crate) const SIZE: u64 = 65_536;
 /// The number of entries that each chapter of a shared ring's history has room for.
 pub(crate) const ROOM: u32 = 65_536;
 
-// The number of entries that each chapter of the ring of one thread has room for: 256 kilobytes of entries, which stay
+// The number of entries that each chapter of the ring of one thread has room for: 64 kilobytes of entries, which stay
 // in the second-level cache.
 const COURSE_ROOM: u32 = 8_192;
 

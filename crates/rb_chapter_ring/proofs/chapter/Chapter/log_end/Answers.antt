@@ -3,10 +3,11 @@ use Rattle.rb_history.specs.History.{Shown}
 use Rattle.rb_chapter_ring.specs.Standing.{Standing, record_in}
 use Rattle.rb_chapter_ring.specs.Chapters.{Chapter, closing_of}
 use Rattle.rb_chapter_ring.specs.ChapterRoom.{IsBusyNow, record_now, with_entry}
-use Rattle.rb_chapter_ring.specs.inner.ChapterBody.{chapter_shown, IsBehindTakes}
+use Rattle.rb_chapter_ring.specs.inner.ChapterBody.{chapter_shown, entries_in, IsBehindTakes}
 use Rattle.rb_chapter_ring.specs.RecordEnds.{entry_of_end, status_of_end}
 use Rattle.rb_chapter_ring.proofs.Running.{records-owe}
-use Rattle.rb_chapter_ring.proofs.Settling.{index-fits, worker-fits, few, same-now, ended}
+use Rattle.rb_chapter_ring.proofs.Settling.{index-fits, worker-fits, few, same-now, position-low, ended}
+use Rattle.rb_chapter_ring.proofs.EntryWords.{length-entries, logs-in}
 use Rattle.rb_chapter_ring.proofs.chapter.Chapter.log_end.Goals as goal
 
 pub add_end-pos-requires-clause-within : goal.add_end-pos-requires-clause-within
@@ -27,11 +28,23 @@ add_end-pos-requires-clause-total c =
     let busy = subst (λ x. IsBusyNow x c.args.index) (sym c.self.view_is) c.requires.busy in
     few was.earlier (chapter_shown c.self.inside) was.kept c.self.inside.closing.opening was.closing_is c.args.index busy
 
+pub end_word-requires : goal.end_word-requires
+end_word-requires c =
+    let was = c.self.invariant in
+    let busy = subst (λ x. IsBusyNow x c.args.index) (sym c.self.view_is) c.requires.busy in
+    let low = position-low was.earlier (chapter_shown c.self.inside) was.kept c.self.inside.closing.opening was.closing_is c.args.index busy in
+    record { limit = omega (arith, low, c.add_end-pos.ensures.position) }
+
 pub log_owed-requires : goal.log_owed-requires
 log_owed-requires c =
     let was = c.self.invariant in
+    let o = c.self.inside.opening.opening in
     let busy = subst (λ x. IsBusyNow x c.args.index) (sym c.self.view_is) c.requires.busy in
-    record { owing = omega (arith, was.owed_is, records-owe (closing_of (chapter_shown c.self.inside)).records, busy.0); space = omega (arith, was.space, was.kept.room, was.owed_is, records-owe (closing_of (chapter_shown c.self.inside)).records, busy.0, c.self.inside.entries.ok.0) }
+    let owing = records-owe (closing_of (chapter_shown c.self.inside)).records in
+    record {
+      owing = omega (arith, was.owed_is, owing, busy.0);
+      space = omega (arith, was.space, was.kept.room, was.owed_is, owing, busy.0, c.self.inside.words.ok.0, length-entries o.tallies o.producer c.self.inside.words.items);
+    }
 
 pub invariant_of-self : goal.invariant_of-self
 invariant_of-self c =
@@ -40,8 +53,8 @@ invariant_of-self c =
     let closing = c.self.inside.closing.opening in
     let busy = subst (λ x. IsBusyNow x c.args.index) (sym c.self.view_is) c.requires.busy in
     let pos = c.add_end-pos.ensures.position ∙ ap (λ (s : Shown). s.pos) (same-now was.earlier old was.kept closing was.closing_is c.args.index busy) in
-    let new : Chapter = record { number = c.self.inside.number; room = c.self.inside.room; opening = c.self.inside.opening.opening; entries = c.log_owed.new.entries.items } in
-    let logged : new ≡ with_entry old (entry_of_end c.args.end (record_now old c.args.index).pos) = ap (λ es. record old { entries = es }) c.log_owed.ensures.logged ∙ ap (λ e. with_entry old e) c.entry.ensures.entry ∙ ap (λ q. with_entry old (entry_of_end c.args.end q)) pos in
+    let new : Chapter = record { number = c.self.inside.number; room = c.self.inside.room; opening = c.self.inside.opening.opening; entries = entries_in c.self.inside.opening.opening c.log_owed.new.words.items } in
+    let logged : new ≡ with_entry old (entry_of_end c.args.end (record_now old c.args.index).pos) = ap (λ es. record old { entries = es }) (logs-in c.self.inside.opening.opening c.self.inside.words.items c.log_owed.new.words.items c.end_word.result (entry_of_end c.args.end c.add_end-pos.result) c.log_owed.ensures.logged c.end_word.ensures.word) ∙ ap (λ q. with_entry old (entry_of_end c.args.end q)) pos in
     let runs = ended was.earlier old was.kept closing was.closing_is c.args.index busy c.args.end c.add_end-pos.new.self.opening c.self.inside.owed new was.owed_is c.add_end-pos.ensures.added logged in
     record {
       room = was.room;
@@ -59,7 +72,7 @@ invariant_of-self c =
         ap (λ (o : Standing). length o.records) c.add_end-pos.ensures.added,
         length-set closing.records c.args.index (record (record_in closing c.args.index) { status = status_of_end c.args.end }),
         ap length c.log_owed.ensures.logged,
-        length-append old.entries (c.entry.result ∷ []),
+        length-append c.self.inside.words.items (c.end_word.result ∷ []),
       );
       takes = subst IsBehindTakes (sym c.add_end-pos.ensures.added) was.takes;
       closing_is = runs.closing_is;
@@ -75,5 +88,5 @@ returns c =
     let closing = c.self.inside.closing.opening in
     let busy = subst (λ x. IsBusyNow x c.args.index) (sym c.self.view_is) c.requires.busy in
     let pos = c.add_end-pos.ensures.position ∙ ap (λ (s : Shown). s.pos) (same-now was.earlier old was.kept closing was.closing_is c.args.index busy) in
-    let logged = ap (λ es. record old { entries = es }) c.log_owed.ensures.logged ∙ ap (λ e. with_entry old e) c.entry.ensures.entry ∙ ap (λ q. with_entry old (entry_of_end c.args.end q)) pos in
+    let logged = ap (λ es. record old { entries = es }) (logs-in c.self.inside.opening.opening c.self.inside.words.items c.log_owed.new.words.items c.end_word.result (entry_of_end c.args.end c.add_end-pos.result) c.log_owed.ensures.logged c.end_word.ensures.word) ∙ ap (λ q. with_entry old (entry_of_end c.args.end q)) pos in
     record { logged = logged ∙ ap (λ (x : Chapter). with_entry x (entry_of_end c.args.end (record_now x c.args.index).pos)) c.self.view_is }

@@ -1,27 +1,53 @@
-use Rattle.std.proofs.Common.{◌≡◌, ◌<◌, ◌++◌, ◌∷◌, [], length, length-append, sym, ap, ◌∙◌, subst, arith}
+use Rattle.std.proofs.Common.{◌≡◌, ◌-◌, ◌<◌, ◌++◌, ◌∷◌, [], length, length-append, sym, ap, ◌∙◌, subst, arith}
 use Rattle.rb_history.specs.declared.entries.Entry.TheVariants.{Res}
-use Rattle.rb_history.specs.History.{Shown}
+use Rattle.rb_history.specs.declared.tally.Tally.{Tally}
 use Rattle.rb_chapter_ring.specs.Standing.{Standing}
 use Rattle.rb_chapter_ring.specs.Chapters.{Chapter}
 use Rattle.rb_chapter_ring.specs.CountedFrom.{HasRoomFrom, grants_from, producer_from}
 use Rattle.rb_chapter_ring.specs.ChapterRoom.{MayGrant, with_entry}
-use Rattle.rb_chapter_ring.specs.inner.ChapterBody.{chapter_shown, IsBehindTakes}
+use Rattle.rb_chapter_ring.specs.inner.ChapterBody.{chapter_shown, entries_in, IsBehindTakes}
 use Rattle.rb_chapter_ring.specs.inner.StandingSteps.{next_record}
-use Rattle.rb_chapter_ring.proofs.Logging.{grants-fit, granted, serial-is, position-is}
+use Rattle.rb_chapter_ring.proofs.Logging.{grants-fit, granted, serial-is}
+use Rattle.rb_chapter_ring.proofs.EntryWords.{grants-few, length-entries, logs-grant}
 use Rattle.rb_chapter_ring.proofs.chapter.Chapter.log_grant.Goals as goal
 
-pub add_grant-record-requires-clause-total : goal.add_grant-record-requires-clause-total
-add_grant-record-requires-clause-total c =
+pub add_grant-serial-requires-clause-total : goal.add_grant-serial-requires-clause-total
+add_grant-serial-requires-clause-total c =
     let was = c.self.invariant in
     let low = subst (λ (x : Chapter). c.args.worker < x.opening.setup.workers) (sym c.self.view_is) c.requires.worker in
     let fits = subst (λ (x : Chapter). HasRoomFrom x.opening x.entries c.args.len) (sym c.self.view_is) c.requires.room in
     grants-fit was.earlier (chapter_shown c.self.inside) was.kept c.self.inside.closing.opening was.closing_is c.args.worker c.args.len low fits
 
-pub add_grant-record-requires-clause-room : goal.add_grant-record-requires-clause-room
-add_grant-record-requires-clause-room c =
+pub add_grant-serial-requires-clause-room : goal.add_grant-serial-requires-clause-room
+add_grant-serial-requires-clause-room c =
     let was = c.self.invariant in
     let room = subst MayGrant (sym c.self.view_is) c.requires.chapter_room in
-    omega (arith, was.passed, was.owed_is, room, was.closing_space)
+    omega (arith, was.passed, was.owed_is, room, was.closing_space, length-entries c.self.inside.opening.opening.tallies c.self.inside.opening.opening.producer c.self.inside.words.items)
+
+-- the serial is counted from the opening on, in the entries of the chapter
+pub overflow_sub-later : goal.overflow_sub-later
+overflow_sub-later c =
+    let was = c.self.invariant in
+    let old = chapter_shown c.self.inside in
+    let low = subst (λ (x : Chapter). c.args.worker < x.opening.setup.workers) (sym c.self.view_is) c.requires.worker in
+    let serial = serial-is was.earlier old was.kept c.self.inside.closing.opening was.closing_is c.args.worker low in
+    omega (arith, serial, c.add_grant-serial.ensures.serial, ap (λ (t : Tally). t.made) c.tally.ensures.tally)
+
+pub grant_word-requires-clause-later : goal.grant_word-requires-clause-later
+grant_word-requires-clause-later c =
+    let was = c.self.invariant in
+    let old = chapter_shown c.self.inside in
+    let low = subst (λ (x : Chapter). c.args.worker < x.opening.setup.workers) (sym c.self.view_is) c.requires.worker in
+    let serial = serial-is was.earlier old was.kept c.self.inside.closing.opening was.closing_is c.args.worker low in
+    let room = subst MayGrant (sym c.self.view_is) c.requires.chapter_room in
+    omega (arith, serial, c.add_grant-serial.ensures.serial, ap (λ (t : Tally). t.made) c.tally.ensures.tally, grants-few c.args.worker old.entries, room, was.room.1)
+
+pub log-requires : goal.log-requires
+log-requires c =
+    let was = c.self.invariant in
+    let o = c.self.inside.opening.opening in
+    let room = subst MayGrant (sym c.self.view_is) c.requires.chapter_room in
+    record { space = omega (arith, was.space, room, c.self.inside.words.ok.0, length-entries o.tallies o.producer c.self.inside.words.items) }
 
 pub invariant_of-self : goal.invariant_of-self
 invariant_of-self c =
@@ -32,28 +58,27 @@ invariant_of-self c =
     let low = subst (λ (x : Chapter). w < x.opening.setup.workers) (sym c.self.view_is) c.requires.worker in
     let fits = subst (λ (x : Chapter). HasRoomFrom x.opening x.entries c.args.len) (sym c.self.view_is) c.requires.room in
     let room = subst MayGrant (sym c.self.view_is) c.requires.chapter_room in
-    let serial = ap (λ (x : Shown). x.serial) c.add_grant-record.ensures.record ∙ serial-is was.earlier old was.kept closing was.closing_is w low in
-    let pos = ap (λ (x : Shown). x.pos) c.add_grant-record.ensures.record ∙ position-is was.earlier old was.kept closing was.closing_is in
-    let new : Chapter = record { number = c.self.inside.number; room = c.self.inside.room; opening = c.self.inside.opening.opening; entries = c.log.new.entries.items } in
+    let serial = c.add_grant-serial.ensures.serial ∙ serial-is was.earlier old was.kept closing was.closing_is w low in
+    let new : Chapter = record { number = c.self.inside.number; room = c.self.inside.room; opening = c.self.inside.opening.opening; entries = entries_in c.self.inside.opening.opening c.log.new.words.items } in
     let logged : new ≡ with_entry old (Res w (grants_from old.opening w old.entries) c.args.len (producer_from old.opening old.entries)) =
-    ap (λ es. record old { entries = es }) c.log.ensures.logged ∙ (λ i. record old { entries = old.entries ++ Res w (serial i) c.args.len (pos i) ∷ [] }) in
-    let runs = granted was.earlier old was.kept closing was.closing_is w c.args.len c.add_grant-record.new.self.opening c.self.inside.owed new low fits room was.owed_is c.add_grant-record.ensures.added logged in
+    ap (λ es. record old { entries = es }) (logs-grant c.self.inside.opening.opening c.self.inside.words.items c.log.new.words.items c.grant_word.result w (c.add_grant-serial.result - c.tally.result.made) c.args.len (grants_from old.opening w old.entries) c.log.ensures.logged c.grant_word.ensures.word (omega (arith, serial, ap (λ (t : Tally). t.made) c.tally.ensures.tally))) in
+    let runs = granted was.earlier old was.kept closing was.closing_is w c.args.len c.add_grant-serial.new.self.opening c.self.inside.owed new low fits room was.owed_is c.add_grant-serial.ensures.added logged in
     record {
       room = was.room;
       workers = was.workers;
       space = omega (arith, was.space, c.log.ensures.space);
       opening_space = was.opening_space;
-      closing_space = omega (arith, was.closing_space, c.add_grant-record.ensures.room);
+      closing_space = omega (arith, was.closing_space, c.add_grant-serial.ensures.room);
       passed = omega (
         arith,
         was.passed,
-        c.add_grant-record.ensures.passed,
-        ap (λ (o : Standing). length o.records) c.add_grant-record.ensures.added,
+        c.add_grant-serial.ensures.passed,
+        ap (λ (o : Standing). length o.records) c.add_grant-serial.ensures.added,
         length-append closing.records (next_record w c.args.len closing ∷ []),
         ap length c.log.ensures.logged,
-        length-append old.entries (Res w c.add_grant-record.result.serial c.args.len c.add_grant-record.result.pos ∷ []),
+        length-append c.self.inside.words.items (c.grant_word.result ∷ []),
       );
-      takes = subst IsBehindTakes (sym c.add_grant-record.ensures.added) was.takes;
+      takes = subst IsBehindTakes (sym c.add_grant-serial.ensures.added) was.takes;
       closing_is = runs.closing_is;
       owed_is = runs.owed_is;
       earlier = was.earlier;
@@ -67,7 +92,6 @@ returns c =
     let closing = c.self.inside.closing.opening in
     let w = c.args.worker in
     let low = subst (λ (x : Chapter). w < x.opening.setup.workers) (sym c.self.view_is) c.requires.worker in
-    let serial = ap (λ (x : Shown). x.serial) c.add_grant-record.ensures.record ∙ serial-is was.earlier old was.kept closing was.closing_is w low in
-    let pos = ap (λ (x : Shown). x.pos) c.add_grant-record.ensures.record ∙ position-is was.earlier old was.kept closing was.closing_is in
-    let logged = ap (λ es. record old { entries = es }) c.log.ensures.logged ∙ (λ i. record old { entries = old.entries ++ Res w (serial i) c.args.len (pos i) ∷ [] }) in
+    let serial = c.add_grant-serial.ensures.serial ∙ serial-is was.earlier old was.kept closing was.closing_is w low in
+    let logged = ap (λ es. record old { entries = es }) (logs-grant c.self.inside.opening.opening c.self.inside.words.items c.log.new.words.items c.grant_word.result w (c.add_grant-serial.result - c.tally.result.made) c.args.len (grants_from old.opening w old.entries) c.log.ensures.logged c.grant_word.ensures.word (omega (arith, serial, ap (λ (t : Tally). t.made) c.tally.ensures.tally))) in
     record { logged = logged ∙ ap (λ (x : Chapter). with_entry x (Res w (grants_from x.opening w x.entries) c.args.len (producer_from x.opening x.entries))) c.self.view_is }

@@ -4,9 +4,10 @@ use Rattle.rb_chapter_ring.specs.Standing.{Standing}
 use Rattle.rb_chapter_ring.specs.Chapters.{Chapter, closing_of}
 use Rattle.rb_chapter_ring.specs.CountedFrom.{consumer_from}
 use Rattle.rb_chapter_ring.specs.ChapterRoom.{HasSettledFront, with_entry}
-use Rattle.rb_chapter_ring.specs.inner.ChapterBody.{chapter_shown, IsBehindTakes}
+use Rattle.rb_chapter_ring.specs.inner.ChapterBody.{chapter_shown, entries_in, IsBehindTakes}
 use Rattle.rb_chapter_ring.proofs.Running.{records-owe}
 use Rattle.rb_chapter_ring.proofs.Settling.{some-there, take-low, taken, takes-behind, one-less}
+use Rattle.rb_chapter_ring.proofs.EntryWords.{length-entries, logs-in}
 use Rattle.rb_chapter_ring.proofs.chapter.Chapter.log_take.Goals as goal
 
 pub add_take-pos-requires-clause-some : goal.add_take-pos-requires-clause-some
@@ -27,11 +28,23 @@ add_take-pos-requires-clause-totals c =
     let front = subst HasSettledFront (sym c.self.view_is) c.requires.front in
     omega (arith, was.takes, take-low was.earlier (chapter_shown c.self.inside) was.kept c.self.inside.closing.opening was.closing_is front)
 
+pub take_word-requires : goal.take_word-requires
+take_word-requires c =
+    let was = c.self.invariant in
+    let front = subst HasSettledFront (sym c.self.view_is) c.requires.front in
+    let low = take-low was.earlier (chapter_shown c.self.inside) was.kept c.self.inside.closing.opening was.closing_is front in
+    record { limit = omega (arith, low, c.add_take-pos.ensures.position) }
+
 pub log_owed-requires : goal.log_owed-requires
 log_owed-requires c =
     let was = c.self.invariant in
+    let o = c.self.inside.opening.opening in
     let front = subst HasSettledFront (sym c.self.view_is) c.requires.front in
-    record { owing = omega (arith, was.owed_is, records-owe (closing_of (chapter_shown c.self.inside)).records, front.0); space = omega (arith, was.space, was.kept.room, was.owed_is, records-owe (closing_of (chapter_shown c.self.inside)).records, front.0, c.self.inside.entries.ok.0) }
+    let owing = records-owe (closing_of (chapter_shown c.self.inside)).records in
+    record {
+      owing = omega (arith, was.owed_is, owing, front.0);
+      space = omega (arith, was.space, was.kept.room, was.owed_is, owing, front.0, c.self.inside.words.ok.0, length-entries o.tallies o.producer c.self.inside.words.items);
+    }
 
 pub invariant_of-self : goal.invariant_of-self
 invariant_of-self c =
@@ -40,8 +53,8 @@ invariant_of-self c =
     let closing = c.self.inside.closing.opening in
     let front = subst HasSettledFront (sym c.self.view_is) c.requires.front in
     let pos = c.add_take-pos.ensures.position ∙ ap (λ (o : Standing). o.consumer) was.closing_is in
-    let new : Chapter = record { number = c.self.inside.number; room = c.self.inside.room; opening = c.self.inside.opening.opening; entries = c.log_owed.new.entries.items } in
-    let logged : new ≡ with_entry old (Take (consumer_from old.opening old.entries)) = ap (λ es. record old { entries = es }) c.log_owed.ensures.logged ∙ ap (λ q. with_entry old (Take q)) pos in
+    let new : Chapter = record { number = c.self.inside.number; room = c.self.inside.room; opening = c.self.inside.opening.opening; entries = entries_in c.self.inside.opening.opening c.log_owed.new.words.items } in
+    let logged : new ≡ with_entry old (Take (consumer_from old.opening old.entries)) = ap (λ es. record old { entries = es }) (logs-in c.self.inside.opening.opening c.self.inside.words.items c.log_owed.new.words.items c.take_word.result (Take c.add_take-pos.result) c.log_owed.ensures.logged c.take_word.ensures.word) ∙ ap (λ q. with_entry old (Take q)) pos in
     let runs = taken was.earlier old was.kept closing was.closing_is front c.add_take-pos.new.self.opening c.self.inside.owed new was.owed_is c.add_take-pos.ensures.taken logged in
     record {
       room = was.room;
@@ -59,7 +72,7 @@ invariant_of-self c =
         ap (λ (o : Standing). length o.records) c.add_take-pos.ensures.taken,
         one-less closing.records (some-there was.earlier old was.kept closing was.closing_is front),
         ap length c.log_owed.ensures.logged,
-        length-append old.entries (Take c.add_take-pos.result ∷ []),
+        length-append c.self.inside.words.items (c.take_word.result ∷ []),
       );
       takes = subst IsBehindTakes (sym c.add_take-pos.ensures.taken) (takes-behind closing was.takes);
       closing_is = runs.closing_is;
@@ -73,5 +86,5 @@ returns c =
     let was = c.self.invariant in
     let old = chapter_shown c.self.inside in
     let pos = c.add_take-pos.ensures.position ∙ ap (λ (o : Standing). o.consumer) was.closing_is in
-    let logged = ap (λ es. record old { entries = es }) c.log_owed.ensures.logged ∙ ap (λ q. with_entry old (Take q)) pos in
+    let logged = ap (λ es. record old { entries = es }) (logs-in c.self.inside.opening.opening c.self.inside.words.items c.log_owed.new.words.items c.take_word.result (Take c.add_take-pos.result) c.log_owed.ensures.logged c.take_word.ensures.word) ∙ ap (λ q. with_entry old (Take q)) pos in
     record { logged = logged ∙ ap (λ (x : Chapter). with_entry x (Take (consumer_from x.opening x.entries))) c.self.view_is }

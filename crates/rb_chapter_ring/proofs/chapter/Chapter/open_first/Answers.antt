@@ -2,7 +2,7 @@ use Rattle.std.proofs.Common.{◌≤◌, [], length, sym, ap, ◌∙◌, subst, 
 use Rattle.rb_history.specs.RingModel.{IsWorkerCount}
 use Rattle.rb_chapter_ring.specs.Standing.{Standing}
 use Rattle.rb_chapter_ring.specs.Chapters.{empty_ring}
-use Rattle.rb_chapter_ring.specs.inner.ChapterBody.{IsBehindTakes}
+use Rattle.rb_chapter_ring.specs.inner.ChapterBody.{entries_in, IsBehindTakes}
 use Rattle.rb_chapter_ring.proofs.Empty.{empty-as}
 use Rattle.rb_chapter_ring.proofs.Running.{runs-from-none}
 use Rattle.rb_chapter_ring.proofs.chapter.Chapter.open_first.Goals as goal
@@ -11,9 +11,11 @@ pub invariant_of-self : goal.invariant_of-self
 invariant_of-self c =
     let was = c.self.invariant in
     let first = c.begin.ensures.first in
-    let kept = empty-as c.self.inside.room _ c.begin.new.self.opening c.clear.new.self.items first c.clear.ensures.items in
+    let o = c.begin.new.self.opening in
+    let none = ap (entries_in o) c.clear.ensures.items in
+    let kept = empty-as c.self.inside.room _ o (entries_in o c.clear.new.self.items) first none in
     let workers = ap (λ (o : Standing). empty_ring (record { size = c.args.size; start = c.args.start; workers = o.setup.workers })) was.closing_is in
-    let runs = runs-from-none [] _ c.begin-2.new.self.opening _ kept c.clear.ensures.items first (c.begin-2.ensures.first ∙ workers) in
+    let runs = runs-from-none [] _ c.begin-2.new.self.opening _ kept none first (c.begin-2.ensures.first ∙ workers) in
     record {
       room = was.room;
       workers = subst IsWorkerCount (sym (ap (λ (o : Standing). o.setup.workers) first)) was.workers;

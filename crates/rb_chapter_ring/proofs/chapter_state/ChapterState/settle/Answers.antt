@@ -3,4 +3,4 @@ use Rattle.rb_chapter_ring.proofs.chapter_state.ChapterState.settle.Goals as goa
 
 pub returns-clause-ended : goal.returns-clause-ended
 returns-clause-ended c =
-    ends-by c.args.end c.args.self.now c.log_end.new.self c.args.grant c.pos-pos.result c.into_sheet.result c.pos-pos.ensures.value c.into_sheet.ensures.value c.requires.busy c.log_end.ensures.logged c.log_end.ensures.contents
+    ends-by c.args.end c.args.self.now c.log_end.new.self c.args.reservation.granted c.pos-pos.result c.into_sheet.result c.pos-pos.ensures.pos c.into_sheet.ensures.value c.requires.busy c.log_end.ensures.logged c.log_end.ensures.contents

@@ -7,12 +7,16 @@ use Rattle.rb_chapter_ring.proofs.hand_state.HandState.index_in.Goals as goal
 pub overflow_sub-result : goal.overflow_sub-result
 overflow_sub-result c =
     let k = c.facts.ensures.kept in
-    let out = subst (λ (s : HandRing). HasInHand s c.args.hand c.args.grant.now) (sym c.self.view_is) c.requires.out in
-    (found-by-ordinal k.0 (hand_ring c.self.inside.ring c.self.inside.hands.items) c.self.inside.ordinals.items k.1 c.facts.ensures.stands c.self.invariant c.args.hand c.args.grant.now out c.worker.result c.index.result.now c.taken.result c.worker.ensures.value c.index.ensures c.taken.ensures.taken).0
+    let r = c.args.reservation.now in
+    let named = subst (λ h. HasInHand c.args.self.now h r.granted) (sym c.hand.ensures.hand) c.requires.out in
+    let out = subst (λ (s : HandRing). HasInHand s c.hand.result r.granted) (sym c.self.view_is) named in
+    (found-by-ordinal k.0 (hand_ring c.self.inside.ring c.self.inside.hands.items) c.self.inside.ordinals.items k.1 c.facts.ensures.stands c.self.invariant c.hand.result r.granted out c.worker.result c.index.result.now c.taken.result c.worker.ensures.worker c.index.ensures c.taken.ensures.taken).0
 
 pub returns : goal.returns
 returns c =
     let k = c.facts.ensures.kept in
-    let out = subst (λ (s : HandRing). HasInHand s c.args.hand c.args.grant.now) (sym c.self.view_is) c.requires.out in
-    let found = found-by-ordinal k.0 (hand_ring c.self.inside.ring c.self.inside.hands.items) c.self.inside.ordinals.items k.1 c.facts.ensures.stands c.self.invariant c.args.hand c.args.grant.now out c.worker.result c.index.result.now c.taken.result c.worker.ensures.value c.index.ensures c.taken.ensures.taken in
-    record { here = subst (λ (s : HandRing). IsBusyAt s.ring.shown (get_or c.index.result.now c.args.hand 0 - c.taken.result) c.args.grant.now.pos (length c.args.grant.now.bytes)) c.self.view_is found.1 }
+    let r = c.args.reservation.now in
+    let named = subst (λ h. HasInHand c.args.self.now h r.granted) (sym c.hand.ensures.hand) c.requires.out in
+    let out = subst (λ (s : HandRing). HasInHand s c.hand.result r.granted) (sym c.self.view_is) named in
+    let found = found-by-ordinal k.0 (hand_ring c.self.inside.ring c.self.inside.hands.items) c.self.inside.ordinals.items k.1 c.facts.ensures.stands c.self.invariant c.hand.result r.granted out c.worker.result c.index.result.now c.taken.result c.worker.ensures.worker c.index.ensures c.taken.ensures.taken in
+    record { here = subst (λ (s : HandRing). IsBusyAt s.ring.shown (get_or c.index.result.now c.hand.result 0 - c.taken.result) r.granted.pos (length r.granted.bytes)) c.self.view_is found.1 }
