@@ -153,7 +153,7 @@ impl Chapter {
         ensures logged { self.new ≡ with_entry self.old (Res worker (grants_from self.old.opening worker self.old.entries) len (producer_from self.old.opening self.old.entries)) }
     {
         let serial = self.closing.add_grant(worker, len);
-        let later = serial - self.opening.tally(worker).made;
+        let later = serial - self.opening.made(worker);
         self.owed += 2;
         log(&mut self.words, grant_word(worker, later, len));
     }

@@ -11,6 +11,7 @@ ghost use Rattle.rb_chapter_ring.specs.inner.StandingSteps.{with_refusal, with_g
 mod numbers;
 
 use crate::record_end::RecordEnd;
+use crate::setup::made_by;
 use crate::standing_lists::{
     are_same_records, are_same_tallies, copy, count_end, count_made, count_refused, forget,
     front_of, set_end, tally_of,
@@ -199,6 +200,15 @@ impl Standing {
         self.numbers.consumer += span(record.len);
         self.numbers.count_take(record.status);
         position
+    }
+
+    #[inline(always)]
+    // Returns the number of records that were granted to the worker.
+    pub(crate) fn made(&self, worker: u32) -> u64
+        requires worker { worker < self.now.opening.setup.workers }
+        ensures made { result ≡ (tally_at self.now.opening worker).made }
+    {
+        made_by(self.tallies.as_slice(), worker)
     }
 
     // Returns the worker's totals.

@@ -1,6 +1,5 @@
 use Rattle.std.proofs.Common.{◌≡◌, ◌-◌, ◌<◌, ◌++◌, ◌∷◌, [], length, length-append, sym, ap, ◌∙◌, subst, arith}
 use Rattle.rb_history.specs.declared.entries.Entry.TheVariants.{Res}
-use Rattle.rb_history.specs.declared.tally.Tally.{Tally}
 use Rattle.rb_chapter_ring.specs.Standing.{Standing}
 use Rattle.rb_chapter_ring.specs.Chapters.{Chapter}
 use Rattle.rb_chapter_ring.specs.CountedFrom.{HasRoomFrom, grants_from, producer_from}
@@ -31,7 +30,7 @@ overflow_sub-later c =
     let old = chapter_shown c.self.inside in
     let low = subst (λ (x : Chapter). c.args.worker < x.opening.setup.workers) (sym c.self.view_is) c.requires.worker in
     let serial = serial-is was.earlier old was.kept c.self.inside.closing.opening was.closing_is c.args.worker low in
-    omega (arith, serial, c.add_grant-serial.ensures.serial, ap (λ (t : Tally). t.made) c.tally.ensures.tally)
+    omega (arith, serial, c.add_grant-serial.ensures.serial, c.made.ensures.made)
 
 pub grant_word-requires-clause-later : goal.grant_word-requires-clause-later
 grant_word-requires-clause-later c =
@@ -40,7 +39,7 @@ grant_word-requires-clause-later c =
     let low = subst (λ (x : Chapter). c.args.worker < x.opening.setup.workers) (sym c.self.view_is) c.requires.worker in
     let serial = serial-is was.earlier old was.kept c.self.inside.closing.opening was.closing_is c.args.worker low in
     let room = subst MayGrant (sym c.self.view_is) c.requires.chapter_room in
-    omega (arith, serial, c.add_grant-serial.ensures.serial, ap (λ (t : Tally). t.made) c.tally.ensures.tally, grants-few c.args.worker old.entries, room, was.room.1)
+    omega (arith, serial, c.add_grant-serial.ensures.serial, c.made.ensures.made, grants-few c.args.worker old.entries, room, was.room.1)
 
 pub log-requires : goal.log-requires
 log-requires c =
@@ -61,7 +60,7 @@ invariant_of-self c =
     let serial = c.add_grant-serial.ensures.serial ∙ serial-is was.earlier old was.kept closing was.closing_is w low in
     let new : Chapter = record { number = c.self.inside.number; room = c.self.inside.room; opening = c.self.inside.opening.opening; entries = entries_in c.self.inside.opening.opening c.log.new.words.items } in
     let logged : new ≡ with_entry old (Res w (grants_from old.opening w old.entries) c.args.len (producer_from old.opening old.entries)) =
-    ap (λ es. record old { entries = es }) (logs-grant c.self.inside.opening.opening c.self.inside.words.items c.log.new.words.items c.grant_word.result w (c.add_grant-serial.result - c.tally.result.made) c.args.len (grants_from old.opening w old.entries) c.log.ensures.logged c.grant_word.ensures.word (omega (arith, serial, ap (λ (t : Tally). t.made) c.tally.ensures.tally))) in
+    ap (λ es. record old { entries = es }) (logs-grant c.self.inside.opening.opening c.self.inside.words.items c.log.new.words.items c.grant_word.result w (c.add_grant-serial.result - c.made.result) c.args.len (grants_from old.opening w old.entries) c.log.ensures.logged c.grant_word.ensures.word (omega (arith, serial, c.made.ensures.made))) in
     let runs = granted was.earlier old was.kept closing was.closing_is w c.args.len c.add_grant-serial.new.self.opening c.self.inside.owed new low fits room was.owed_is c.add_grant-serial.ensures.added logged in
     record {
       room = was.room;
@@ -93,5 +92,5 @@ returns c =
     let w = c.args.worker in
     let low = subst (λ (x : Chapter). w < x.opening.setup.workers) (sym c.self.view_is) c.requires.worker in
     let serial = c.add_grant-serial.ensures.serial ∙ serial-is was.earlier old was.kept closing was.closing_is w low in
-    let logged = ap (λ es. record old { entries = es }) (logs-grant c.self.inside.opening.opening c.self.inside.words.items c.log.new.words.items c.grant_word.result w (c.add_grant-serial.result - c.tally.result.made) c.args.len (grants_from old.opening w old.entries) c.log.ensures.logged c.grant_word.ensures.word (omega (arith, serial, ap (λ (t : Tally). t.made) c.tally.ensures.tally))) in
+    let logged = ap (λ es. record old { entries = es }) (logs-grant c.self.inside.opening.opening c.self.inside.words.items c.log.new.words.items c.grant_word.result w (c.add_grant-serial.result - c.made.result) c.args.len (grants_from old.opening w old.entries) c.log.ensures.logged c.grant_word.ensures.word (omega (arith, serial, c.made.ensures.made))) in
     record { logged = logged ∙ ap (λ (x : Chapter). with_entry x (Res w (grants_from x.opening w x.entries) c.args.len (producer_from x.opening x.entries))) c.self.view_is }
