@@ -1,18 +1,16 @@
 -- The entries of a chapter, by the eight bytes that it stores for each.
-use Rattle.std.proofs.Common.{◌≡◌, ℕ, Bool, true, false, ◌+◌, ◌<◌, ◌≤◌, ◌^◌, List, [], ◌∷◌, ◌++◌, length, refl, sym, ap, ◌∙◌, subst, append_assoc, add-zero, arith}
-use Rattle.std.specs.List.{sum_by}
+use Rattle.std.proofs.Common.{◌≡◌, ℕ, Bool, true, false, ◌+◌, ◌≤◌, List, [], ◌∷◌, ◌++◌, length, refl, sym, ap, ◌∙◌, subst, append_assoc, add-zero, arith}
 use Rattle.std.proofs.lemmas.List.{length-map}
 use Rattle.rb_history.specs.declared.entries.Entry.{Entry}
 use Rattle.rb_history.specs.declared.entries.Entry.TheVariants.{Res, Full, Sub, Dis, Take}
 use Rattle.rb_history.specs.declared.tally.Tally.{Tally}
 use Rattle.rb_history.specs.History.{is_grant_of, granted_span, producer_of, grants}
-use Rattle.rb_history.specs.RoomRule.{Setup}
 use Rattle.rb_history.specs.WorkerCounts.{tally_of, numbers_below}
 use Rattle.rb_history.proofs.Lists.{sum_by-cons, sum_by-snoc}
 use Rattle.rb_history.proofs.RecordWorkers.{bit}
 use Rattle.rb_history.proofs.Tallies.{grants-low}
-use Rattle.rb_chapter_ring.specs.Standing.{Standing, standing_of, tally_at}
-use Rattle.rb_chapter_ring.specs.CountedFrom.{producer_from, grants_from, MayFollowFrom, IsLegalFrom}
+use Rattle.rb_chapter_ring.specs.Standing.{Standing, tally_at}
+use Rattle.rb_chapter_ring.specs.CountedFrom.{producer_from, MayFollowFrom, IsLegalFrom}
 use Rattle.rb_chapter_ring.specs.Chapters.{Chapter}
 use Rattle.rb_chapter_ring.specs.WholeHistory.{IsKept}
 use Rattle.rb_chapter_ring.specs.inner.EntryWords.{made_before, entry_of, entries_of, IsWithin, AreWithin}

@@ -9,7 +9,7 @@
 --     +-----------------------------+----------+-----------+---+-----+
 --     | position                                               | 0 1 |  Sub; 1 0: Dis; 1 1: Take
 --     +--------------------------------------------------------+-----+
-use Rattle.std.specs.Prelude.{ℕ, ◌+◌, ◌*◌, ◌/◌, ◌%◌, ◌^◌, ◌==◌, ◌<◌, ◌≤◌, List, [], ◌∷◌, if◌then◌else◌, length}
+use Rattle.std.specs.Prelude.{ℕ, ◌+◌, ◌/◌, ◌%◌, ◌^◌, ◌==◌, ◌<◌, ◌≤◌, List, [], ◌∷◌, if◌then◌else◌, length}
 use Rattle.std.specs.List.{slice_index_or as get_or}
 use Rattle.rb_history.specs.declared.entries.Entry.{Entry}
 use Rattle.rb_history.specs.declared.entries.Entry.TheVariants.{Res, Full, Sub, Dis, Take}

@@ -1,4 +1,4 @@
-use Rattle.std.proofs.Common.{◌≡◌, length, ap, ◌∙◌, arith}
+use Rattle.std.proofs.Common.{◌≡◌, ap, ◌∙◌, arith}
 use Rattle.rb_chapter_ring.specs.ChapterRoom.{used}
 use Rattle.rb_chapter_ring.specs.inner.ChapterBody.{chapter_shown}
 use Rattle.rb_chapter_ring.proofs.EntryWords.{length-entries}
