@@ -9,7 +9,7 @@ use Rattle.rb_history.specs.declared.answers.Counts.{Counts}
 use Rattle.rb_history.specs.declared.tally.Tally.{Tally}
 use Rattle.rb_io.specs.Lines.{line}
 use Rattle.rb_workers.specs.declared.opened.Ended.{Ended}
-use Rattle.rb_run_commands.specs.ReportLines.{closing_lines, closing_objects, closing_objects_from, counts_line, tally_line, unlogged_text}
+use Rattle.rb_run_commands.specs.ReportLines.{closing_lines, closing_objects, closing_objects_from, counts_line, records_line, tally_line, unlogged_text}
 
 -- the text of a seat's line, from its pieces
 tally_pieces : (worker made refused submitted discarded : List ℕ)
@@ -23,17 +23,28 @@ pub tally_written : {A B : Type 0} (answer : Result A B) (old new : List ℕ) (w
 tally_written (Ok a) old new worker t wrote = wrote ∙ ap (λ l. old ++ l) (tally_pieces (decimal worker) (decimal t.made) (decimal t.refused) (decimal t.submitted) (decimal t.discarded))
 tally_written (Err e) old new worker t wrote = tt
 
--- the text of the line of a ring's counts, from its pieces
-counts_pieces : (made consumed discarded waiting busy : List ℕ)
-    → codes "ring made " ++ (made ++ (codes " consumed " ++ (consumed ++ (codes " discarded " ++ (discarded ++ (codes " waiting " ++ (waiting ++ (codes " busy " ++ (busy ++ 10 ∷ [])))))))))
-    ≡ line (codes "ring made " ++ made ++ codes " consumed " ++ consumed ++ codes " discarded " ++ discarded ++ codes " waiting " ++ waiting ++ codes " busy " ++ busy)
-counts_pieces made consumed discarded waiting busy = simp append_assoc refl
+-- the text of what happened to a ring's records, as it is composed
+records_pieces : (consumed discarded waiting busy : List ℕ)
+    → codes "consumed " ++ (consumed ++ (codes " discarded " ++ (discarded ++ (codes " waiting " ++ (waiting ++ (codes " busy " ++ (busy ++ 10 ∷ [])))))))
+    ≡ line (codes "consumed " ++ consumed ++ codes " discarded " ++ discarded ++ codes " waiting " ++ waiting ++ codes " busy " ++ busy)
+records_pieces consumed discarded waiting busy = simp append_assoc refl
 
-pub counts_written : {A B : Type 0} (answer : Result A B) (old new : List ℕ) (c : Counts)
-    → OnOk answer (new ≡ old ++ (codes "ring made " ++ (decimal c.made ++ (codes " consumed " ++ (decimal c.consumed ++ (codes " discarded " ++ (decimal c.discarded ++ (codes " waiting " ++ (decimal c.waiting ++ (codes " busy " ++ (decimal c.busy ++ 10 ∷ [])))))))))))
+pub records_written : {A B : Type 0} (answer : Result A B) (old new : List ℕ) (c : Counts)
+    → OnOk answer (new ≡ old ++ (codes "consumed " ++ (decimal c.consumed ++ (codes " discarded " ++ (decimal c.discarded ++ (codes " waiting " ++ (decimal c.waiting ++ (codes " busy " ++ (decimal c.busy ++ 10 ∷ [])))))))))
+    → OnOk answer (new ≡ old ++ records_line c)
+records_written (Ok a) old new c wrote = wrote ∙ ap (λ l. old ++ l) (records_pieces (decimal c.consumed) (decimal c.discarded) (decimal c.waiting) (decimal c.busy))
+records_written (Err e) old new c wrote = tt
+
+-- the line of a ring's counts, as it is composed
+counts_pieces : (old made rest : List ℕ) → (old ++ (codes "ring made " ++ (made ++ codes " "))) ++ rest ≡ old ++ (codes "ring made " ++ made ++ codes " " ++ rest)
+counts_pieces old made rest = simp append_assoc refl
+
+pub counts_written : {A B : Type 0} (answer : Result A B) (old begun new : List ℕ) (c : Counts)
+    → begun ≡ old ++ (codes "ring made " ++ (decimal c.made ++ codes " "))
+    → OnOk answer (new ≡ begun ++ records_line c)
     → OnOk answer (new ≡ old ++ counts_line c)
-counts_written (Ok a) old new c wrote = wrote ∙ ap (λ l. old ++ l) (counts_pieces (decimal c.made) (decimal c.consumed) (decimal c.discarded) (decimal c.waiting) (decimal c.busy))
-counts_written (Err e) old new c wrote = tt
+counts_written (Ok a) old begun new c first wrote = wrote ∙ (ap (λ l. l ++ records_line c) first ∙ counts_pieces old (decimal c.made) (records_line c))
+counts_written (Err e) old begun new c first wrote = tt
 
 -- the message on unlogged calls, from its pieces
 unlogged_pieces : (unlogged : List ℕ) → codes "unlogged " ++ (unlogged ++ (codes " (reservations and outputs that found no room in the ring's chapter, no free hand or no memory)" ++ 10 ∷ []))

@@ -41,7 +41,8 @@ pub lent_is : (item : Lent) → sink_tape_items (Record (item_taken item) ∷ []
 lent_is (kinds.Event e) = refl
 lent_is (kinds.Skip pos n) = refl
 
-first_of : (item : SinkItem) (items : List SinkItem) → sink_tape_items (item ∷ items) ≡ sink_tape_items (item ∷ []) ++ sink_tape_items items
+-- the records of the first item, and then those of the others
+pub first_of : (item : SinkItem) (items : List SinkItem) → sink_tape_items (item ∷ items) ≡ sink_tape_items (item ∷ []) ++ sink_tape_items items
 first_of (Record (Event p w k bytes)) items = refl
 first_of (Record (Skipped p n)) items = refl
 first_of (Record BusyFront) items = refl

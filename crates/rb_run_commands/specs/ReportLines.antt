@@ -23,11 +23,14 @@ abbrev pub tally_lines_from : ℕ → List Tally → List ℕ
 tally_lines_from worker [] = []
 tally_lines_from worker (tally ∷ more) = tally_line worker tally ++ tally_lines_from (worker + 1) more
 
+-- what happened to a ring's records, to the end of the line
+abbrev pub records_line : Counts → List ℕ
+records_line counts =
+    line (codes "consumed " ++ decimal counts.consumed ++ codes " discarded " ++ decimal counts.discarded ++ codes " waiting " ++ decimal counts.waiting ++ codes " busy " ++ decimal counts.busy)
+
 -- the line of a ring's counts
 abbrev pub counts_line : Counts → List ℕ
-counts_line counts =
-    line (codes "ring made " ++ decimal counts.made ++ codes " consumed " ++ decimal counts.consumed ++ codes " discarded " ++ decimal counts.discarded ++ codes " waiting " ++ decimal counts.waiting
-    ++ codes " busy " ++ decimal counts.busy)
+counts_line counts = codes "ring made " ++ decimal counts.made ++ codes " " ++ records_line counts
 
 -- the lines of a closed ring: the counts of each worker's seat, and those of the ring across all its chapters
 abbrev pub closing_lines : {S : Type 0} → Ended S → List ℕ

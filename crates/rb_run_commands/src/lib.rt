@@ -37,6 +37,7 @@ mod worker_jobs;
 pub use check_command::{Checked, check, check_text};
 pub use jobs_fault::JobsFault;
 pub use portable_check::check_portable;
+pub use report_lines::push_records;
 pub use run_command::{JOB_BOUNDS, JobsRequest, check_ring, run};
 pub use tape_sink::TapeSink;
 pub use tape_watch::TapeWatch;

@@ -2,7 +2,7 @@
 //! message on unlogged calls.
 
 ghost use Rattle.std.specs.Prelude.{◌≡◌, ◌++◌, IfOk, OnOk, string_bytes};
-ghost use Rattle.rb_run_commands.specs.ReportLines.{closing_lines, counts_line, report_text, tally_line, tally_lines_from, unlogged_text};
+ghost use Rattle.rb_run_commands.specs.ReportLines.{closing_lines, counts_line, records_line, report_text, tally_line, tally_lines_from, unlogged_text};
 
 use rb_history::{Counts, Tally};
 use rb_workers::{Ended, JobsReport};
@@ -76,8 +76,17 @@ fn push_tally(text: &mut String, worker: usize, tally: Tally) -> Result<(), Allo
 fn push_counts(text: &mut String, counts: Counts) -> Result<(), AllocError>
     ensures line { OnOk result (string_bytes text.new ≡ string_bytes text.old ++ counts_line counts) }
 {
+    write!(text, "ring made {} ", counts.made)?;
+    push_records(text, counts)
+}
+
+/// Appends what happened to a ring's records, up to the end of the line: `consumed C discarded D waiting W busy B`.
+/// Returns `AllocError` if the text cannot be extended.
+pub fn push_records(text: &mut String, counts: Counts) -> Result<(), AllocError>
+    ensures records { OnOk result (string_bytes text.new ≡ string_bytes text.old ++ records_line counts) }
+{
     let Counts {
-        made,
+        made: _,
         refused: _,
         consumed,
         discarded,
@@ -86,6 +95,6 @@ fn push_counts(text: &mut String, counts: Counts) -> Result<(), AllocError>
     } = counts;
     writeln!(
         text,
-        "ring made {made} consumed {consumed} discarded {discarded} waiting {waiting} busy {busy}"
+        "consumed {consumed} discarded {discarded} waiting {waiting} busy {busy}"
     )
 }

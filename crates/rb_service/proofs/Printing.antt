@@ -10,7 +10,8 @@ use Rattle.rb_source.specs.declared.counts.ContextCounts.{ContextCounts}
 use Rattle.rb_stream.specs.declared.report.StreamReport.{StreamReport}
 use Rattle.rb_stream_worker.specs.declared.result_counts.ResultCounts.{ResultCounts}
 use Rattle.rb_workers.specs.declared.opened.Ended.{Ended}
-use Rattle.rb_service.specs.Counters.{AppendsCounters, contexts_line, contexts_read, counters, other_line, program_lines, programs_lines_from, records_line, requests_part, result_line, result_lines_from, ring_line, rings_lines}
+use Rattle.rb_run_commands.specs.ReportLines.{records_line}
+use Rattle.rb_service.specs.Counters.{AppendsCounters, contexts_line, contexts_read, counters, other_line, program_lines, programs_lines_from, requests_part, result_line, result_lines_from, ring_line, rings_lines}
 
 -- the text of the line of the contexts, as it is composed
 contexts_pieces : (read run dropped skipped cut : List ℕ)
@@ -70,18 +71,7 @@ pub requests_written : {A B : Type 0} (answer : Result A B) (old new : List ℕ)
 requests_written (Ok a) old new c wrote = wrote ∙ ap (λ l. old ++ l) (requests_pieces (decimal c.made) (decimal c.refused))
 requests_written (Err e) old new c wrote = tt
 
--- the text of what happened to a ring's records, as it is composed
-records_pieces : (consumed discarded waiting busy : List ℕ)
-    → codes "consumed " ++ (consumed ++ (codes " discarded " ++ (discarded ++ (codes " waiting " ++ (waiting ++ (codes " busy " ++ (busy ++ 10 ∷ [])))))))
-    ≡ line (codes "consumed " ++ consumed ++ codes " discarded " ++ discarded ++ codes " waiting " ++ waiting ++ codes " busy " ++ busy)
-records_pieces consumed discarded waiting busy = simp append_assoc refl
-
-pub records_written : {A B : Type 0} (answer : Result A B) (old new : List ℕ) (c : Counts)
-    → OnOk answer (new ≡ old ++ (codes "consumed " ++ (decimal c.consumed ++ (codes " discarded " ++ (decimal c.discarded ++ (codes " waiting " ++ (decimal c.waiting ++ (codes " busy " ++ (decimal c.busy ++ 10 ∷ [])))))))))
-    → OnOk answer (new ≡ old ++ records_line c)
-records_written (Ok a) old new c wrote = wrote ∙ ap (λ l. old ++ l) (records_pieces (decimal c.consumed) (decimal c.discarded) (decimal c.waiting) (decimal c.busy))
-records_written (Err e) old new c wrote = tt
-
+-- the text of a ring, as it is composed
 ring_pieces : (old a name b d : List ℕ) → old ++ a ++ name ++ b ++ d ≡ old ++ (a ++ name ++ b ++ d)
 ring_pieces old a name b d = simp append_assoc refl
 

@@ -5,6 +5,7 @@ use Rattle.rb_history.specs.declared.answers.Counts.{Counts}
 use Rattle.rb_chapter_ring.specs.OpenedRing.{told_counts}
 use Rattle.rb_dealing.specs.Dealt.{saturated}
 use Rattle.rb_io.specs.Lines.{line}
+use Rattle.rb_run_commands.specs.ReportLines.{records_line}
 use Rattle.rb_source.specs.declared.counts.ContextCounts.{ContextCounts}
 use Rattle.rb_workers.specs.declared.opened.Ended.{Ended}
 use Rattle.rb_stream.specs.declared.report.StreamReport.{StreamReport}
@@ -46,11 +47,6 @@ programs_lines_from program (counts ∷ more) = program_lines program counts ++ 
 -- how many reservations and outputs got a record, and how many were refused
 abbrev pub requests_part : Counts → List ℕ
 requests_part counts = codes " made " ++ decimal counts.made ++ codes " refused " ++ decimal counts.refused ++ codes " "
-
--- what happened to a ring's records
-abbrev pub records_line : Counts → List ℕ
-records_line counts =
-    line (codes "consumed " ++ decimal counts.consumed ++ codes " discarded " ++ decimal counts.discarded ++ codes " waiting " ++ decimal counts.waiting ++ codes " busy " ++ decimal counts.busy)
 
 -- the line of a ring, by its name
 abbrev pub ring_line : List ℕ → Counts → List ℕ

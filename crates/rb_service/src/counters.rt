@@ -2,9 +2,10 @@
 
 ghost use Rattle.std.specs.Prelude.{◌≡◌, ◌++◌, IfOk, OnOk, length, map, string_bytes};
 ghost use Rattle.rb_chapter_ring.specs.OpenedRing.{told_counts};
-ghost use Rattle.rb_service.specs.Counters.{contexts_line, counters, other_line, program_lines, programs_lines_from, records_line, requests_part, result_line, result_lines_from, ring_line, rings_lines};
+ghost use Rattle.rb_service.specs.Counters.{contexts_line, counters, other_line, program_lines, programs_lines_from, requests_part, result_line, result_lines_from, ring_line, rings_lines};
 
 use rb_history::Counts;
+use rb_run_commands::push_records;
 use rb_source::ContextCounts;
 use rb_stream::StreamReport;
 use rb_stream_worker::ResultCounts;
@@ -131,22 +132,4 @@ fn push_requests(text: &mut String, counts: Counts) -> Result<(), AllocError>
     ensures requests { OnOk result (string_bytes text.new ≡ string_bytes text.old ++ requests_part counts) }
 {
     write!(text, " made {} refused {} ", counts.made, counts.refused)
-}
-
-// Appends what happened to a ring's records.
-fn push_records(text: &mut String, counts: Counts) -> Result<(), AllocError>
-    ensures records { OnOk result (string_bytes text.new ≡ string_bytes text.old ++ records_line counts) }
-{
-    let Counts {
-        made: _,
-        refused: _,
-        consumed,
-        discarded,
-        waiting,
-        busy,
-    } = counts;
-    writeln!(
-        text,
-        "consumed {consumed} discarded {discarded} waiting {waiting} busy {busy}"
-    )
 }

@@ -1,5 +1,0 @@
-use Rattle.rb_service.proofs.Printing.{records_written}
-use Rattle.rb_service.proofs.counters.push_records.Goals as goal
-
-pub returns : goal.returns
-returns c = record { records = records_written _ _ _ c.args.counts c.writeln.ensures.bytes }
