@@ -5,8 +5,8 @@ use Rattle.std.specs.List.{AllZip, cons_option, flat_map}
 use Rattle.rb_history.specs.declared.entries.Entry.{Entry}
 use Rattle.rb_interp.specs.AnsweredCalls.{notes_of}
 use Rattle.rb_ledger.specs.Seats.{WorkerSeat}
-use Rattle.rb_job_cost.specs.JobRequests.{Request, request_of, requests_of, AreLeft, LeavesRequests}
-use Rattle.rb_job_cost.proofs.Leaving.{calls_leave}
+use Rattle.rb_run_cost.specs.JobRequests.{Request, request_of, requests_of, AreLeft, LeavesRequests}
+use Rattle.rb_run_cost.proofs.Leaving.{calls_leave}
 use Rattle.rb_workers.specs.JobRuns.{JobRun, RunsInTurn}
 use Rattle.rb_run_cost.specs.RunCosts.{RunsCut, RunsCutHistories}
 

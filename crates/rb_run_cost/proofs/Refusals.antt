@@ -18,11 +18,11 @@ use Rattle.rb_admission.specs.Admission.{asked_span, asked_bytes}
 use Rattle.rb_admission.proofs.OnTime.{none_refused_on_time}
 use Rattle.rb_cost.specs.declared.cost.Cost.{Cost}
 use Rattle.rb_cost.specs.Runs.{ring_cost_at}
-use Rattle.rb_call_cost.specs.CallCosts.{AreCallsWithin, asked_span as asked_by}
-use Rattle.rb_call_cost.proofs.TracedCalls.{calls_stay}
-use Rattle.rb_job_cost.specs.JobRequests.{Request, request_of, requests_of, AreLeft}
-use Rattle.rb_job_cost.specs.JobCosts.{requested_bytes}
-use Rattle.rb_job_cost.proofs.Asking.{all_calls}
+use Rattle.rb_run_cost.specs.CallCosts.{AreCallsWithin, asked_span as asked_by}
+use Rattle.rb_run_cost.proofs.TracedCalls.{calls_stay}
+use Rattle.rb_run_cost.specs.JobRequests.{Request, request_of, requests_of, AreLeft}
+use Rattle.rb_run_cost.specs.JobCosts.{requested_bytes}
+use Rattle.rb_run_cost.proofs.Asking.{all_calls}
 use Rattle.rb_jobs.specs.declared.job.Job.{Job}
 use Rattle.rb_jobs.specs.SeatRecords.{reserved_bytes, with_record_bytes}
 use Rattle.rb_interp.specs.declared.done.Done.{Done}

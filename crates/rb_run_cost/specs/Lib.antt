@@ -1,1 +1,5 @@
+pub mod CallCosts
+pub mod JobRequests
+pub mod JobCosts
 pub mod RunCosts
+pub mod WorldCosts

@@ -9,13 +9,13 @@ use Rattle.rb_admission.specs.Lateness.{IsLateByAtMost}
 use Rattle.rb_cost.specs.declared.cost.Cost.{Cost}
 use Rattle.rb_cost.specs.Cost.{IsCost}
 use Rattle.rb_cost.specs.Runs.{ring_cost_at}
-use Rattle.rb_call_cost.specs.CallCosts.{IsVerified}
+use Rattle.rb_run_cost.specs.CallCosts.{IsVerified}
 use Rattle.rb_ledger.specs.Seats.{WorkerSeat}
 use Rattle.rb_interp.specs.declared.done.Done.{Done}
 use Rattle.rb_interp.specs.AnsweredCalls.{notes_of}
 use Rattle.rb_jobs.specs.SeatHelpers.{makes, fails}
 use Rattle.rb_jobs.specs.declared.job.Job.{Job}
-use Rattle.rb_job_cost.specs.JobRequests.{AreLeft, requests_of}
+use Rattle.rb_run_cost.specs.JobRequests.{AreLeft, requests_of}
 use Rattle.rb_workers.specs.declared.opened.Opened.{Opened}
 use Rattle.rb_workers.specs.declared.opened.Ended.{Ended}
 use Rattle.rb_workers.specs.declared.opened.JobsReport.{JobsReport}

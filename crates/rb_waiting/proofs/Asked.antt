@@ -13,11 +13,11 @@ use Rattle.rb_verifier.specs.Subject.{Subject}
 use Rattle.rb_cost.specs.declared.cost.Cost.{Cost}
 use Rattle.rb_cost.specs.Cost.{IsCost}
 use Rattle.rb_cost.specs.Runs.{ring_cost_at}
-use Rattle.rb_call_cost.specs.CallCosts.{IsVerified}
+use Rattle.rb_run_cost.specs.CallCosts.{IsVerified}
 use Rattle.rb_ledger.specs.Seats.{WorkerSeat}
-use Rattle.rb_job_cost.specs.JobRequests.{Request, requests_of}
-use Rattle.rb_job_cost.specs.JobCosts.{requested_bytes}
-use Rattle.rb_job_cost.proofs.Asking.{jobs_ask}
+use Rattle.rb_run_cost.specs.JobRequests.{Request, requests_of}
+use Rattle.rb_run_cost.specs.JobCosts.{requested_bytes}
+use Rattle.rb_run_cost.proofs.Asking.{jobs_ask}
 use Rattle.rb_stream_worker.specs.Tasks.{StreamTask, TaskRun, RunsTasks, tasks_of, tasks_over}
 use Rattle.rb_stream.proofs.Counted.{element_of}
 use Rattle.rb_stream.proofs.TaskRuns.{answer_of, task_at}

@@ -17,8 +17,8 @@ use Rattle.rb_ledger.specs.Roles.{NoneOwn, is_own}
 use Rattle.rb_ledger.specs.Roles.Role.{Worker}
 use Rattle.rb_ledger.specs.Seats.{WorkerSeat}
 use Rattle.rb_jobs.specs.SeatLaws.{SeatBegins}
-use Rattle.rb_job_cost.specs.JobRequests.{Request, requests_of}
-use Rattle.rb_job_cost.specs.JobCosts.{requested_bytes}
+use Rattle.rb_run_cost.specs.JobRequests.{Request, requests_of}
+use Rattle.rb_run_cost.specs.JobCosts.{requested_bytes}
 use Rattle.rb_run_cost.proofs.Refusals.{asked_is}
 use Rattle.rb_stream_worker.specs.Tasks.{TaskRun}
 use Rattle.rb_stream_worker.specs.Turns.{FindsRoom, RunsTurn, RunsTurns}

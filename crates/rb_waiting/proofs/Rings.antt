@@ -26,7 +26,7 @@ use Rattle.rb_admission.proofs.Admitted.{none-refused, none_refused_after_looks}
 use Rattle.rb_verifier.specs.Subject.{Subject}
 use Rattle.rb_cost.specs.declared.cost.Cost.{Cost}
 use Rattle.rb_cost.specs.Cost.{IsCost}
-use Rattle.rb_call_cost.specs.CallCosts.{IsVerified}
+use Rattle.rb_run_cost.specs.CallCosts.{IsVerified}
 use Rattle.rb_ledger.specs.Seats.{IsSameSeat, Ties, WorkerSeat}
 use Rattle.rb_ledger.specs.Roles.{BeginsWith, book_of}
 use Rattle.rb_ledger.specs.Headline.{Accounts}

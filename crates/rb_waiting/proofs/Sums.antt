@@ -16,7 +16,7 @@ use Rattle.rb_cost.specs.Runs.{ring_cost_at}
 use Rattle.rb_cost.specs.TurnSize.{IsTurnLength, contexts_at_once}
 use Rattle.rb_cost.proofs.LeastRings.{least_rings}
 use Rattle.rb_cost.proofs.TurnSizes.{turns_fit}
-use Rattle.rb_call_cost.specs.CallCosts.{IsVerified}
+use Rattle.rb_run_cost.specs.CallCosts.{IsVerified}
 use Rattle.rb_workers.specs.declared.opened.Opened.{Opened}
 use Rattle.rb_workers.proofs.Parts.{zip_more}
 use Rattle.rb_stream_worker.specs.declared.when_full.Turns.{Turns}

@@ -6,7 +6,7 @@ use Rattle.rb_cost.specs.declared.cost.Cost.{Cost}
 use Rattle.rb_cost.specs.Cost.{IsCost}
 use Rattle.rb_cost.specs.Runs.{ring_cost_at}
 use Rattle.rb_cost.specs.TurnSize.{contexts_at_once}
-use Rattle.rb_call_cost.specs.CallCosts.{IsVerified}
+use Rattle.rb_run_cost.specs.CallCosts.{IsVerified}
 use Rattle.rb_history.specs.RoomRule.{Setup}
 use Rattle.rb_stream_worker.specs.declared.when_full.Turns.{Turns}
 use Rattle.rb_workers.specs.declared.opened.Opened.{Opened}

@@ -2,7 +2,7 @@
 
 ghost use Rattle.std.specs.Prelude.{◌≡◌, ◌↔◌, ◌+◌, ◌*◌, ◌<◌, ◌≤◌, ℕ, All, IfErr, IfOk, IsErrOf, IsTrue, false, length, slice_index_or, true, vec_len};
 ghost use Rattle.rb_cost.specs.RingSize.{least_ring};
-ghost use Rattle.rb_call_cost.specs.CallCosts.{IsVerified};
+ghost use Rattle.rb_run_cost.specs.CallCosts.{IsVerified};
 ghost use Rattle.rb_waiting.specs.Faults.{IsFirstTooSmall};
 ghost use Rattle.rb_waiting.specs.Plans.{IsLongest, IsPlan};
 ghost use Rattle.rb_waiting.specs.inner.Sums.{AddsCost, AreLongest, AreSums, FitsTurns, IsFirstSmall};

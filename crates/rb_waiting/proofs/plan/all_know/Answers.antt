@@ -1,6 +1,6 @@
 use Rattle.std.proofs.Common.{◌≤◌}
 use Rattle.rb_verifier.specs.Subject.{Subject}
-use Rattle.rb_call_cost.specs.CallCosts.{IsVerified}
+use Rattle.rb_run_cost.specs.CallCosts.{IsVerified}
 use Rattle.rb_waiting.proofs.Sums.{all_more, all_taken}
 use Rattle.rb_waiting.proofs.plan.all_know.Goals as goal
 

@@ -1,6 +1,6 @@
 use Rattle.std.proofs.Common.{◌≤◌, take}
 use Rattle.std.specs.Prelude.{All}
-use Rattle.rb_call_cost.specs.CallCosts.{IsVerified}
+use Rattle.rb_run_cost.specs.CallCosts.{IsVerified}
 use Rattle.rb_waiting.proofs.plan.all_know.Given as goal
 
 abbrev pub invariant-loop-program : goal.invariant-loop-program

@@ -2,8 +2,8 @@
 use Rattle.std.proofs.Common.{subst, ◌∷◌}
 use Rattle.rb_cost.specs.Runs.{AreMoments}
 use Rattle.rb_cost.proofs.Running.{runs_stay}
-use Rattle.rb_world_cost.specs.WorldCosts.{moment_of, WorkersStayWithin}
-use Rattle.rb_world_cost.proofs.WorkersCome.{all_start, all_run}
+use Rattle.rb_run_cost.specs.WorldCosts.{moment_of, WorkersStayWithin}
+use Rattle.rb_run_cost.proofs.WorkersCome.{all_start, all_run}
 
 pub workers_within : WorkersStayWithin
 workers_within first last actors events w cost opens run lt is runs =

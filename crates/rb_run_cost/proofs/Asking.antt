@@ -7,13 +7,13 @@ use Rattle.rb_history.specs.Span.{span}
 use Rattle.rb_interp.specs.declared.done.Done.{Done}
 use Rattle.rb_interp.specs.declared.done.Done.TheVariants.{Reserve, Submit, Discard, Output, Query}
 use Rattle.rb_interp.specs.AnsweredCalls.{notes_of}
-use Rattle.rb_call_cost.specs.CallCosts.{asked_span, AreCallsWithin}
-use Rattle.rb_call_cost.proofs.TracedCalls.{calls_stay}
+use Rattle.rb_run_cost.specs.CallCosts.{asked_span, AreCallsWithin}
+use Rattle.rb_run_cost.proofs.TracedCalls.{calls_stay}
 use Rattle.rb_jobs.specs.SeatHelpers.{is_no_record}
 use Rattle.rb_jobs.specs.SeatRecords.{reserved_bytes, with_record_bytes}
-use Rattle.rb_job_cost.specs.JobRequests.{Request, request_at, granted_by, refused_by, MayLeave, AreLeft}
-use Rattle.rb_job_cost.specs.JobCosts.{requested_bytes, JobsAskWithin}
-use Rattle.rb_job_cost.proofs.Leaving.{calls_leave}
+use Rattle.rb_run_cost.specs.JobRequests.{Request, request_at, granted_by, refused_by, MayLeave, AreLeft}
+use Rattle.rb_run_cost.specs.JobCosts.{requested_bytes, JobsAskWithin}
+use Rattle.rb_run_cost.proofs.Leaving.{calls_leave}
 
 joined : (xs ys : List Request) → requested_bytes (xs ++ ys) ≡ requested_bytes xs + requested_bytes ys
 joined xs ys = sum_by-append (λ (q : Request). span q.len) xs ys

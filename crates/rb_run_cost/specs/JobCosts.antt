@@ -2,14 +2,14 @@
 -- the costs of their programs (own).
 use Rattle.std.specs.Prelude.{◌≡◌, ℕ, ◌<◌, ◌≤◌, List, sum_by, slice_get, Some}
 use Rattle.rb_history.specs.Span.{span}
-use Rattle.rb_call_cost.specs.CallCosts.{IsVerified}
+use Rattle.rb_run_cost.specs.CallCosts.{IsVerified}
 use Rattle.rb_cost.specs.declared.cost.Cost.{Cost}
 use Rattle.rb_cost.specs.Cost.{IsCost}
 use Rattle.rb_cost.specs.Runs.{ring_cost_at}
 use Rattle.rb_ledger.specs.Seats.{WorkerSeat}
 use Rattle.rb_jobs.specs.declared.job.JobAnswer.{JobAnswer}
 use Rattle.rb_jobs.specs.Jobs.{Task, JobRan}
-use Rattle.rb_job_cost.specs.JobRequests.{Request, AddsRequests}
+use Rattle.rb_run_cost.specs.JobRequests.{Request, AddsRequests}
 
 -- the number of bytes that requests ask for: the spans of their records, granted and refused alike
 abbrev pub requested_bytes : List Request → ℕ

@@ -1,6 +1,6 @@
 //! The law that bounds the calls of a run.
 
-ghost use Rattle.rb_call_cost.specs.CallCosts.{CallsStayWithin};
+ghost use Rattle.rb_run_cost.specs.CallCosts.{CallsStayWithin};
 
 use rb_interp::Helpers;
 

@@ -22,7 +22,7 @@ use Rattle.rb_interp.specs.AnsweredCalls.{AnsweredCall, Reserved, Submitted, Dis
 use Rattle.rb_jobs.specs.declared.seat_record.SeatRecord.{SeatRecord}
 use Rattle.rb_jobs.specs.SeatCalls.{AtSeat, CallsSeats, OutputAnswered, RecordAnswered, SeatIsGranted, SeatFindsFull, SeatFindsChapterFull, SeatOutputs, SeatQueries, SeatDiscards, SeatIsRefused, SeatSubmits, NoHandOrSheet, HasNoSheet}
 use Rattle.rb_jobs.proofs.Lists.{get_set_here, get_set_other}
-use Rattle.rb_job_cost.specs.JobRequests.{Request, request_of, requests_of, request_at, MayLeave, AddsRequests, CallsLeaveRequests}
+use Rattle.rb_run_cost.specs.JobRequests.{Request, request_of, requests_of, request_at, MayLeave, AddsRequests, CallsLeaveRequests}
 
 -- ---- histories
 

@@ -1,7 +1,7 @@
 //! The theorems on what jobs request from their rings.
 
-ghost use Rattle.rb_job_cost.specs.JobCosts.{JobsAskWithin};
-ghost use Rattle.rb_job_cost.specs.JobRequests.{CallsLeaveRequests};
+ghost use Rattle.rb_run_cost.specs.JobCosts.{JobsAskWithin};
+ghost use Rattle.rb_run_cost.specs.JobRequests.{CallsLeaveRequests};
 
 /// The calls of a job leave their requests in the histories of its worker's rings, in order: a call that got a record
 /// leaves a granted request; a call that got none leaves a refused request or none. The worker makes no other requests.

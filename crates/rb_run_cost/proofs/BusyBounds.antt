@@ -31,9 +31,9 @@ use Rattle.rb_world.specs.Turns.{TurnEvent, WorldRun}
 use Rattle.rb_world.specs.OpeningWorld.{BeginsVerified, IsOpeningWorld, IsActor}
 use Rattle.rb_world.specs.EveryInterleaving.{HoldsRecord, IsWellRun}
 use Rattle.rb_world.proofs.WholeRuns.{every-interleaving}
-use Rattle.rb_world_cost.specs.WorldCosts.{busy_bytes, held_by_status, may_hold, BusyBytesAreBounded}
-use Rattle.rb_world_cost.proofs.Sums.{sum-none, sum-swap, sum-below, below-contained, below-numbers, one_among, one-at}
-use Rattle.rb_world_cost.proofs.WorkersCome.{HasRun, come, AllRun, all_start, all_run}
+use Rattle.rb_run_cost.specs.WorldCosts.{busy_bytes, held_by_status, may_hold, BusyBytesAreBounded}
+use Rattle.rb_run_cost.proofs.Sums.{sum-none, sum-swap, sum-below, below-contained, below-numbers, one_among, one-at}
+use Rattle.rb_run_cost.proofs.WorkersCome.{HasRun, come, AllRun, all_start, all_run}
 
 -- a record with this status is busy by the test on statuses
 is_busy : (status : Status) → is_same status Busy ≡ true → status ≡ Busy

@@ -1,6 +1,6 @@
 //! The theorems on what a world's rings hold.
 
-ghost use Rattle.rb_world_cost.specs.WorldCosts.{BusyBytesAreBounded, WorkersStayWithin};
+ghost use Rattle.rb_run_cost.specs.WorldCosts.{BusyBytesAreBounded, WorkersStayWithin};
 
 /// After the turns of any list of actors, the busy records of a ring take at most as many bytes as its unfinished
 /// workers together may hold there, by the costs of their programs.

@@ -23,7 +23,7 @@ use Rattle.rb_cost.specs.Runs.{Moment, call_at, asked_by_call, requested_at, IsR
 use Rattle.rb_cost.specs.RunMoments.{answered_by, calls_in, HasMoments, EndsAtMoment}
 use Rattle.rb_cost.proofs.Running.{runs_stay}
 use Rattle.rb_cost.proofs.Coming.{runs_have_moments}
-use Rattle.rb_call_cost.specs.CallCosts.{asks, asked_span, AreCallsWithin, IsVerified, CallsStayWithin}
+use Rattle.rb_run_cost.specs.CallCosts.{asks, asked_span, AreCallsWithin, IsVerified, CallsStayWithin}
 
 -- ---- sums over calls, for any weight
 

@@ -1,5 +1,0 @@
-use Rattle.rb_job_cost.proofs.Asking.{jobs_ask}
-use Rattle.rb_job_cost.proofs.job_cost_laws.jobs_ask_within_their_cost.Goals as goal
-
-pub returns : goal.returns
-returns c = jobs_ask

@@ -1,2 +1,0 @@
-pub mod JobRequests
-pub mod JobCosts

@@ -1,4 +1,0 @@
-mod Sums
-mod WorkersCome
-mod BusyBounds
-mod WorkersWithin

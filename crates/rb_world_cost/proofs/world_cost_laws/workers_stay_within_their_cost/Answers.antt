@@ -1,5 +1,0 @@
-use Rattle.rb_world_cost.proofs.WorkersWithin.{workers_within}
-use Rattle.rb_world_cost.proofs.world_cost_laws.workers_stay_within_their_cost.Goals as goal
-
-pub returns : goal.returns
-returns c = workers_within
