@@ -23,4 +23,5 @@ pub use buffers::{feed_buffered, tape_buffered};
 pub use feed_command::feed;
 pub use feed_fault::FeedFault;
 pub use tape_command::tape;
+pub use tape_lines::record_object;
 pub use tape_refusal::TapeRefusal;

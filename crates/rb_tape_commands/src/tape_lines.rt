@@ -91,7 +91,7 @@ fn push_object(alloc: Global, lines: &mut Lines, found: &Record<'_>) -> Result<(
     ensures line { OnOk result (lines.new.text ≡ lines.old.text ++ tape_object (item_read found.now)) }
     ensures nothing { OnErr result (lines.new.text ≡ lines.old.text) }
 {
-    let object = object_of(alloc, found)?;
+    let object = record_object(alloc, found)?;
     if object.len() >= 1 << 34 {
         return Err(AllocError);
     }
@@ -100,7 +100,8 @@ fn push_object(alloc: Global, lines: &mut Lines, found: &Record<'_>) -> Result<(
     Ok(())
 }
 
-fn object_of(alloc: Global, found: &Record<'_>) -> Result<Vec<u8>, AllocError>
+/// Returns the line of a record as a JSON object: the line that `tape` prints for it in the form `Json`.
+pub fn record_object(alloc: Global, found: &Record<'_>) -> Result<Vec<u8>, AllocError>
     requires length { HasItsLength found.now }
     ensures object { IfOk result (λ object. object.items ≡ tape_object (item_read found.now)) }
 {
