@@ -12,7 +12,7 @@ use rb_source::{Filled, Piece, Source, SourceFault};
 use rtrb::PushError;
 use std::alloc::Global;
 use std::sync::Wait;
-use std::sync::atomic::{AtomicBool, Ordering};
+use std::sync::atomic::{AtomicBool, AtomicU64, Ordering};
 
 /// What happens to a piece if the queues of all workers are full.
 #[derive(Clone, Copy, Debug, PartialEq, Eq)]
@@ -49,9 +49,11 @@ pub struct Dealt {
 
 // What a reader has dealt so far, and the lane that it tries first for the next piece.
 #[derive(Clone, Copy)]
-pub(crate) struct Dealing {
+pub(crate) struct Dealing<'d> {
     pub(crate) contexts: u64,
     pub(crate) dropped: u64,
+    // Where other threads see how many were dropped.
+    pub(crate) live_dropped: &'d AtomicU64,
     pub(crate) next: usize,
 }
 
@@ -80,7 +82,7 @@ fn deal_piece<R: Wait>(
     rt: &R,
     feeds: &mut [LaneFeed],
     late: Late,
-    dealing: &mut Dealing,
+    dealing: &mut Dealing<'_>,
     piece: Piece,
 ) -> Option<Piece>
     requires count { dealing.old.dropped < 2 ^ 64 }
@@ -100,6 +102,9 @@ fn deal_piece<R: Wait>(
             Err(back) => {
                 if late == Late::Drop {
                     dealing.dropped = dealing.dropped.saturating_add(count);
+                    dealing
+                        .live_dropped
+                        .store(dealing.dropped, Ordering::SeqCst);
                     return Some(back);
                 }
                 piece = back;
@@ -136,7 +141,7 @@ pub(crate) fn deal<R: Wait, I: Source>(
     late: Late,
     feeds: &mut [LaneFeed],
     short: &AtomicBool,
-    dealing: &mut Dealing,
+    dealing: &mut Dealing<'_>,
 ) -> DealEnd
     requires fresh { (dealing.old.contexts ≡ 0) × (dealing.old.dropped ≡ 0) }
     ensures dealt { DealsGiven I.gives source.old source.new feeds.old feeds.new dealing.old dealing.new }

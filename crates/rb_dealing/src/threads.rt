@@ -14,7 +14,7 @@ use crate::work::{Work, runs_go_on};
 use rb_source::Source;
 use std::alloc::Global;
 use std::sync::Wait;
-use std::sync::atomic::{AtomicBool, Ordering};
+use std::sync::atomic::{AtomicBool, AtomicU64, Ordering};
 use std::thread;
 use std::thread::{Threads, join_mut};
 
@@ -56,7 +56,7 @@ fn deal_and_work<R: Threads + Wait + Sync, I: Source + Send, W: Work + Send>(
     late: Late,
     feeds: &mut [LaneFeed],
     lanes: &mut [Lane<W>],
-    dealing: &mut Dealing,
+    dealing: &mut Dealing<'_>,
     end: &mut DealEnd,
 )
     requires ready { All (λ lane. W.ready lane.worker) lanes.old }
@@ -93,6 +93,9 @@ fn deal_and_work<R: Threads + Wait + Sync, I: Source + Send, W: Work + Send>(
 /// according to `late`. The reader ends when the source ends or fails, when a piece can't be allocated, or when a
 /// worker reports that it can't continue; what was dealt before is run.
 ///
+/// The reader stores the number of dropped contexts in `dropped` whenever it has dropped a piece, so that other threads
+/// can read it meanwhile. The value of an atomic is outside of the proofs, so no clause speaks of it: tests do.
+///
 /// If no thread can be started for the lanes, they run after the reader. With `Late::Block`, the reader then waits
 /// forever if the source gives more pieces than their queues hold.
 pub fn run_lanes<R: Threads + Wait + Sync, I: Source + Send, W: Work + Send>(
@@ -100,6 +103,7 @@ pub fn run_lanes<R: Threads + Wait + Sync, I: Source + Send, W: Work + Send>(
     alloc: Global,
     source: &mut I,
     late: Late,
+    dropped: &AtomicU64,
     feeds: &mut [LaneFeed],
     lanes: &mut [Lane<W>],
 ) -> Dealt
@@ -112,6 +116,7 @@ pub fn run_lanes<R: Threads + Wait + Sync, I: Source + Send, W: Work + Send>(
     let mut dealing = Dealing {
         contexts: 0,
         dropped: 0,
+        live_dropped: dropped,
         next: 0,
     };
     let mut end = DealEnd::Short;

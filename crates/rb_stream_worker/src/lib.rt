@@ -15,6 +15,7 @@
 #![tactic(auto)]
 
 mod context_runs;
+mod live_counts;
 mod looks;
 mod result_counts;
 mod stream_counts;
@@ -23,6 +24,7 @@ mod turns;
 mod when_full;
 mod work_impl;
 
+pub use live_counts::{CountOptions, LiveCounts};
 pub use result_counts::ResultCounts;
 pub use stream_counts::StreamCounts;
 pub use stream_worker::StreamWorker;

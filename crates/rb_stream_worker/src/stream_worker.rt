@@ -3,6 +3,7 @@
 ghost use Rattle.std.specs.Prelude.{◌≡◌, ◌≤◌, [], IfOk, length, vec_capacity};
 ghost use Rattle.rb_stream_worker.specs.ContextRuns.{IsNewWorker};
 
+use crate::live_counts::{CountOptions, LiveCounts};
 use crate::stream_counts::StreamCounts;
 use crate::when_full::WhenFull;
 use rb_shared_ring::{Seat, SharedRing};
@@ -33,11 +34,13 @@ pub struct StreamWorker<'w, R, K> {
     pub seats: Vec<Seat>,
     /// Its counts.
     pub counts: StreamCounts,
+    /// Where it publishes its counts after each piece.
+    pub live: &'w LiveCounts,
 }
 
 impl<'w, R, K> StreamWorker<'w, R, K> {
     /// Returns a worker that has counted nothing, and has no seats yet but room for one at each ring. It has a separate
-    /// count for each result below `bound`. Returns `AllocError` if its tables and the vector for its seats can't be
+    /// count for each result below the bound. Returns `AllocError` if its tables and the vector for its seats can't be
     /// allocated.
     pub fn new(
         rt: &'w R,
@@ -48,12 +51,12 @@ impl<'w, R, K> StreamWorker<'w, R, K> {
         full: &'w WhenFull,
         ctx_len: u32,
         stock: &'w K,
-        bound: u32,
+        options: CountOptions<'w>,
     ) -> Result<StreamWorker<'w, R, K>, AllocError>
-        ensures new { IfOk result (IsNewWorker number rings.now programs.now full.now ctx_len bound) }
+        ensures new { IfOk result (IsNewWorker number rings.now programs.now full.now ctx_len options.bound) }
     {
         let seats = Vec::with_capacity(alloc, rings.len())?;
-        let counts = StreamCounts::new(alloc, programs.len(), bound)?;
+        let counts = StreamCounts::new(alloc, programs.len(), options.bound)?;
         Ok(StreamWorker {
             rt,
             alloc,
@@ -65,6 +68,7 @@ impl<'w, R, K> StreamWorker<'w, R, K> {
             stock,
             seats,
             counts,
+            live: options.live,
         })
     }
 }

@@ -21,12 +21,15 @@ impl<'w, R: Wait, K: Stock> Work for StreamWorker<'w, R, K> {
     /// Runs every program over every context of the piece, in order, at once or in turns. If an allocation for a run
     /// fails, or if the contexts don't have the length that the programs expect, the worker stops: it leaves the
     /// remaining contexts and all later ones, and counts them.
+    ///
+    /// Afterwards the worker publishes its counts.
     fn run(&mut self, piece: &Piece) {
         if piece.ctx_len() != self.ctx_len {
             self.counts.leave(piece.len());
             return;
         }
         self.run_piece(piece);
+        self.live.publish(self.number, &self.counts, &self.seats);
     }
 
     /// Returns whether the worker stopped.

@@ -11,7 +11,7 @@ use rb_lend::Lent;
 use rb_program::{from_text, shape};
 use rb_shared_ring::{ConsumerSeat, Seat, SharedRing, open};
 use rb_source::Piece;
-use rb_stream_worker::{StreamWorker, WhenFull};
+use rb_stream_worker::{CountOptions, LiveCounts, StreamCounts, StreamWorker, WhenFull};
 use rb_verifier::{Verified, verify};
 use std::alloc::Global;
 use std::fmt::Debug;
@@ -87,6 +87,30 @@ fn has_stopped<W: Work + Send>(worker: &W) -> bool {
     worker.is_short()
 }
 
+// Returns live counts for this many workers over one ring.
+fn live_counts(rt: &impl Abort, alloc: Global, workers: u32, programs: usize) -> LiveCounts {
+    LiveCounts::new(alloc, workers, programs, 1, 16).expect(rt, "memory")
+}
+
+// Ends the test if the live counts differ from those of the one worker.
+fn same_live(rt: &impl Abort, alloc: Global, live: &LiveCounts, counts: &StreamCounts, made: u64) {
+    same(
+        rt,
+        &(live.run(), live.unlogged(), live.requests(0)),
+        &(counts.contexts, counts.unlogged, (made, 0)),
+    );
+    let results = live.results(alloc).expect(rt, "memory");
+    same(rt, &results.len(), &counts.results.len());
+    for at in 0..results.len().min(counts.results.len()) {
+        same(rt, &results[at].other, &counts.results[at].other);
+        same(
+            rt,
+            &results[at].below.as_slice(),
+            &counts.results[at].below.as_slice(),
+        );
+    }
+}
+
 // Returns a worker of these programs at these rings, without seats.
 fn new_worker<'w, R: Wait + Abort>(
     rt: &'w R,
@@ -94,10 +118,12 @@ fn new_worker<'w, R: Wait + Abort>(
     rings: &'w [SharedRing],
     programs: &'w [Verified],
     full: &'w WhenFull,
+    live: &'w LiveCounts,
 ) -> StreamWorker<'w, R, NoStock>
     ensures { IsNewWorker 0 rings.now programs.now full.now 8 16 result }
 {
-    match StreamWorker::new(rt, alloc, 0, rings, programs, full, 8, &NoStock, 16) {
+    let options = CountOptions { bound: 16, live };
+    match StreamWorker::new(rt, alloc, 0, rings, programs, full, 8, &NoStock, options) {
         Ok(worker) => worker,
         Err(_) => rt.panic("no memory"),
     }
@@ -112,7 +138,8 @@ fn two_programs_over_three_contexts(rt: HostRuntime) {
     ];
     let (ring, seat, mut consumer) = opened(&rt, alloc);
     let rings = [ring];
-    let mut worker = new_worker(&rt, alloc, &rings, &programs, &WhenFull::Refuse);
+    let live = live_counts(&rt, alloc, 1, programs.len());
+    let mut worker = new_worker(&rt, alloc, &rings, &programs, &WhenFull::Refuse, &live);
     worker.seats.push_reserved(seat);
     worker.run(&piece_of(&rt, alloc, 8, &[7, 99, 7]));
     let counts = &worker.counts;
@@ -134,6 +161,7 @@ fn two_programs_over_three_contexts(rt: HostRuntime) {
         &(2, 0, 1),
     );
     same(&rt, &has_stopped(&worker), &false);
+    same_live(&rt, alloc, &live, counts, 3);
     for number in [7, 99, 7, 255] {
         same(&rt, &next_byte(&rt, &rings[0], &mut consumer), &number);
     }
@@ -145,7 +173,8 @@ fn a_worker_that_stopped_runs_nothing_more(rt: HostRuntime) {
     let programs = [verified(&rt, alloc, OUTPUT_CONTEXT)];
     let (ring, seat, mut consumer) = opened(&rt, alloc);
     let rings = [ring];
-    let mut worker = new_worker(&rt, alloc, &rings, &programs, &WhenFull::Refuse);
+    let live = live_counts(&rt, alloc, 1, programs.len());
+    let mut worker = new_worker(&rt, alloc, &rings, &programs, &WhenFull::Refuse, &live);
     worker.seats.push_reserved(seat);
     worker.run(&piece_of(&rt, alloc, 9, &[1, 2]));
     worker.run(&piece_of(&rt, alloc, 8, &[3]));
@@ -156,4 +185,32 @@ fn a_worker_that_stopped_runs_nothing_more(rt: HostRuntime) {
         &(0, 3, true),
     );
     same(&rt, &next_byte(&rt, &rings[0], &mut consumer), &255);
+}
+
+#[test]
+fn a_worker_publishes_its_counts_after_each_piece(rt: HostRuntime) {
+    let alloc = rt.alloc();
+    let programs = [
+        verified(&rt, alloc, OUTPUT_CONTEXT),
+        verified(&rt, alloc, FIRST_BYTE),
+    ];
+    let (ring, seat, _consumer) = opened(&rt, alloc);
+    let rings = [ring];
+    let live = live_counts(&rt, alloc, 2, programs.len());
+    let mut worker = new_worker(&rt, alloc, &rings, &programs, &WhenFull::Refuse, &live);
+    worker.seats.push_reserved(seat);
+    same_live(&rt, alloc, &live, &worker.counts, 0);
+    let mut made = 0;
+    for numbers in [
+        [7, 99, 7].as_slice(),
+        [15].as_slice(),
+        [].as_slice(),
+        [0, 7].as_slice(),
+    ] {
+        worker.run(&piece_of(&rt, alloc, 8, numbers));
+        made += numbers.len() as u64;
+        same_live(&rt, alloc, &live, &worker.counts, made);
+    }
+    worker.run(&piece_of(&rt, alloc, 9, &[1]));
+    same_live(&rt, alloc, &live, &worker.counts, made);
 }
