@@ -6,6 +6,8 @@ mod given;
 #[cfg(test)]
 mod held;
 #[cfg(test)]
+mod live;
+#[cfg(test)]
 mod refused;
 #[cfg(test)]
 mod runs;
