@@ -64,7 +64,7 @@ pub fn run_stream<R: Threads + Wait + Sync, I: Source + Send, S: Sink + Send + D
     ensures no_worker { StopsFor StreamFault.NoWorker result ↔ ((has_unknown_ring (vec_len opened) programs.now ≡ false) × (has_other_length (I.ctx_len_of source.old) programs.now ≡ false) × (workers_of opened.items ≡ 0)) }
     ensures nothing_read { IfErr result (λ stop. stop.fault ≢ StreamFault.Memory → (stop.opened ≡ opened) × (source.new ≡ source.old)) }
     ensures stopped { IfErr result (IsStopped S.position_of S.takes I.gives opened.items programs.now source.old source.new) }
-    ensures streamed { IfOk result (IsStreamed S.position_of S.takes I.gives opened.items programs.now options.bound source.old source.new) }
+    ensures streamed { IfOk result (IsStreamed S.position_of S.takes I.gives opened.items programs.now options.entry.bound source.old source.new) }
     ensures end { IfOk result (λ r. EndsSource I.is_over I.fails source.new r.end) }
     ensures no_strays { IfOk result (λ r. r.strays ≡ 0) }
     ensures nothing_left { IfOk result (λ r. All LeavesNothing r.rings.items) }

@@ -35,7 +35,7 @@ pub(crate) fn make_lanes<'w, R, K>(
     workers: &[Worker],
 ) -> Result<Lanes<'w, R, K>, AllocError>
     requires numbered { (k : ℕ) (d : _) → k < length workers.now → (slice_index_or workers.now k d).number ≡ k }
-    ensures new { IfOk result (AreNewLanes (length workers.now) rings.now programs.now full.now ctx_len options.bound) }
+    ensures new { IfOk result (AreNewLanes (length workers.now) rings.now programs.now full.now ctx_len options.entry.bound) }
 {
     let mut feeds = Vec::new(alloc);
     let mut lanes = Vec::new(alloc);
