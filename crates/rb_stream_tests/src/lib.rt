@@ -1,12 +1,23 @@
-//! Tests of streams, through the public interface alone and on threads.
+//! Tests of streams by public calls alone: contexts as they come, and how they are dealt to workers; a worker, and whole
+//! streams on threads; tapes in segments, in memory and in a directory that `follow` reads.
 #![tactic(auto)]
 
+#[cfg(test)]
+mod dealt;
+#[cfg(test)]
+mod followed;
+#[cfg(test)]
+mod framed_streams;
 #[cfg(test)]
 mod given;
 #[cfg(test)]
 mod held;
 #[cfg(test)]
+mod in_memory;
+#[cfg(test)]
 mod live;
+#[cfg(test)]
+mod pieces;
 #[cfg(test)]
 mod refused;
 #[cfg(test)]
@@ -15,3 +26,5 @@ mod runs;
 mod service;
 #[cfg(test)]
 mod waiting;
+#[cfg(test)]
+mod worker;
