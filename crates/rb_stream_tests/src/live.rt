@@ -22,7 +22,7 @@ const CONTEXTS: u32 = 300;
 
 // What is read of a stream, while it runs or at its end.
 #[derive(Drop)]
-struct Seen {
+struct SeenCounts {
     run: u64,
     dropped: u64,
     unlogged: u64,
@@ -32,8 +32,8 @@ struct Seen {
 }
 
 // Reads the counts of a stream while it runs.
-fn seen(alloc: Global, live: &LiveCounts) -> Option<Seen> {
-    Some(Seen {
+fn seen(alloc: Global, live: &LiveCounts) -> Option<SeenCounts> {
+    Some(SeenCounts {
         run: live.run(),
         dropped: live.dropped.load(Ordering::SeqCst),
         unlogged: live.unlogged(),
@@ -48,7 +48,7 @@ struct HeldOpen<'a> {
     alloc: Global,
     inner: OneByOne<'a>,
     live: &'a LiveCounts,
-    seen: Option<Seen>,
+    seen: Option<SeenCounts>,
 }
 
 impl<'a> HeldOpen<'a> {
@@ -119,7 +119,7 @@ fn requests(report: &StreamReport<EventSum>, ring: usize) -> (u64, u64) {
 }
 
 // Ends the test if what was seen differs from the report.
-fn same_as_reported(rt: &impl Abort, seen: &Option<Seen>, report: &StreamReport<EventSum>) {
+fn same_as_reported(rt: &impl Abort, seen: &Option<SeenCounts>, report: &StreamReport<EventSum>) {
     let Some(seen) = seen else {
         rt.panic("nothing was seen")
     };
