@@ -17,12 +17,12 @@ use Rattle.rb_outputs.specs.declared.outputs.RingOutput.{RingOutput}
 use Rattle.rb_outputs.specs.declared.outputs.RingOutput.TheVariants.{Stream, File, Segments, Nowhere}
 
 -- a lent record, as a record of the tape
-lent_is : (item : Lent) → sink_tape_items (Record (item_taken item) ∷ []) ≡ item_of item ∷ []
+pub lent_is : (item : Lent) → sink_tape_items (Record (item_taken item) ∷ []) ≡ item_of item ∷ []
 lent_is (kinds.Event e) = refl
 lent_is (kinds.Skip pos n) = refl
 
 -- the records of the first item, and then those of the others
-first_of : (item : SinkItem) (items : List SinkItem) → sink_tape_items (item ∷ items) ≡ sink_tape_items (item ∷ []) ++ sink_tape_items items
+pub first_of : (item : SinkItem) (items : List SinkItem) → sink_tape_items (item ∷ items) ≡ sink_tape_items (item ∷ []) ++ sink_tape_items items
 first_of (Record (Event p w k bytes)) items = refl
 first_of (Record (Skipped p n)) items = refl
 first_of (Record BusyFront) items = refl

@@ -1,0 +1,12 @@
+-- Writing one line.
+use Rattle.std.specs.Prelude.{◌≡◌, ◌≢◌, ℕ, List, [], ◌++◌, Option, Result, OnErr, OnOk}
+use Rattle.std.specs.Io.KnownBytes.{Appends}
+
+-- a prefix of the line was written: all of it at Ok, and not all of it at an error
+pub record WritesLine {A E : Type 0} (before after : Option (List ℕ)) (line : List ℕ) (answer : Result A E) : Type 0 where
+  pub out : List ℕ
+  pub missing : List ℕ
+  pub wrote : Appends before after out
+  pub beginning : out ++ missing ≡ line
+  pub all_out : OnOk answer (missing ≡ [])
+  pub not_all_out : OnErr answer (missing ≢ [])
