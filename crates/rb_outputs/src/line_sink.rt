@@ -148,7 +148,8 @@ impl<W: Outgoing> Sink for LineSink<W> {
     }
 
     fn record(&mut self, item: &Item<'_>) {
-        self.position += item.span();
+        let span = item.span();
+        self.position += span;
         if self.failed {
             return;
         }
