@@ -91,7 +91,7 @@ impl<'a> Values<'_, 'a> {
         match self.add_outputs(rings, texts)? {
             None => Ok(None),
             Some(path) if self.records() == RecordForm::Lines => {
-                Err(self.wrong("out", path, "NAME=FILE, and --json writes no segments"))
+                Err(self.wrong("out", path, "NAME=FILE, which --json needs: segments are tapes"))
             }
             Some(path) => Ok(Some(SegmentFolder { path, plan })),
         }
