@@ -26,7 +26,7 @@ where
     T: Threads + Wait + Sync + Files<File = File> + Host,
     ensures { result ≤ 1 }
 {
-    match StreamMetrics::new(rt.host(), alloc, options.metrics, options.rings.as_slice()) {
+    match StreamMetrics::new(rt.host(), alloc, options) {
         Ok(metrics) => measured_stream(rt, alloc, options, &metrics, input, out, err),
         Err(AllocError) => print_refusal(StreamRefusal::Memory, err),
     }

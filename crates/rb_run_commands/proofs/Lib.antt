@@ -5,5 +5,5 @@ mod CheckPrinting
 mod Sizes
 mod Printing
 mod Running
-mod TapeGiven
+pub mod TapeGiven
 mod WorkerTasks

@@ -90,7 +90,15 @@ fn stream_from<'a, T: Threads + Wait + Sync, I: Read + Send + Drop, W: Write + S
         full: options.full,
         results: options.results,
     };
-    match serve(rt, alloc, programs, &mut source, plans, request) {
+    match serve(
+        rt,
+        alloc,
+        programs,
+        &mut source,
+        plans,
+        request,
+        &metrics.live,
+    ) {
         Ok(report) => report_on(alloc, options, report, source.counts(), metrics, printed),
         Err(fault) => Err(refusal_of(options, fault)),
     }

@@ -1,13 +1,14 @@
 //! The metrics of a stream, in the text format of Prometheus, for the textfile collector of node_exporter. Tests show what is written; no contract speaks of it.
 
 use crate::metrics_text::{
-    EndTotals, TAPE_GAUGES, push_contexts, push_end, push_gauge, push_records, push_results,
-    push_tape,
+    Requests, RunTotals, TAPE_GAUGES, push_contexts, push_end, push_gauge, push_records,
+    push_results, push_tape,
 };
-use crate::options::{MetricsFile, NamedRing};
+use crate::options::{MetricsFile, StreamOptions};
 use crate::watch::SourceWatch;
 use rb_outputs::{OutputTotals, OutputWatch};
 use rb_source::ContextCounts;
+use rb_stream_worker::LiveCounts;
 use std::alloc::{AllocError, Global};
 use std::fs::{self, File};
 use std::io::{self, Write};
@@ -28,6 +29,8 @@ pub struct StreamMetrics<'a> {
     skipped: AtomicU64,
     cut: AtomicU64,
     rings: Vec<RingTotals<'a>>,
+    /// Where the reader and the workers publish their counts while the stream runs.
+    pub(crate) live: LiveCounts,
 }
 
 // The totals of a ring's output.
@@ -77,61 +80,81 @@ impl<'a> RingTotals<'a> {
 }
 
 impl<'a> StreamMetrics<'a> {
-    /// Returns the metrics of a stream over these rings, which begins now. If there is no file, nothing is written.
+    /// Returns the metrics of a stream with these options, which begins now. If there is no file, nothing is written.
     pub fn new(
         host: &'a HostRuntime,
         alloc: Global,
-        file: Option<MetricsFile<'a>>,
-        rings: &[NamedRing<'a>],
+        options: &StreamOptions<'a>,
     ) -> Result<StreamMetrics<'a>, AllocError> {
         let mut totals = Vec::new(alloc);
-        for ring in rings {
+        for ring in &options.rings {
             totals.push(RingTotals::new(ring.name))?;
         }
         Ok(StreamMetrics {
             host,
             alloc,
-            file,
+            file: options.metrics,
             written: AtomicU64::new(monotonic(host)),
             given: AtomicU64::new(0),
             skipped: AtomicU64::new(0),
             cut: AtomicU64::new(0),
             rings: totals,
+            live: live_counts(alloc, options)?,
         })
     }
 
     /// Writes the metrics at the stream's end. Returns whether that succeeded, or there is no file.
-    pub(crate) fn write_end(&self, end: &EndTotals) -> bool {
+    pub(crate) fn write_end(&self, totals: &RunTotals) -> bool {
         match self.file {
-            Some(file) => self.write(file.path, Some(end)).is_ok(),
+            Some(file) => self.write(file.path, totals).is_ok(),
             None => true,
         }
     }
 
+    // Writes the metrics while the stream runs.
+    fn write_live(&self, path: &str) -> io::Result<()> {
+        let totals = self.live_totals()?;
+        self.write(path, &totals)
+    }
+
+    // Returns what the reader and the workers have published.
+    fn live_totals(&self) -> Result<RunTotals, AllocError> {
+        let run = self.live.run();
+        let mut requests = Vec::with_capacity(self.alloc, self.rings.len())?;
+        for ring in 0..self.rings.len() {
+            let (made, refused) = self.live.requests(ring);
+            requests.push_reserved(Requests { made, refused });
+        }
+        Ok(RunTotals {
+            run,
+            dropped: self.live.dropped.load(Ordering::SeqCst),
+            unlogged: self.live.unlogged(),
+            results: self.live.results(self.alloc)?,
+            requests,
+        })
+    }
+
     // Writes the file under another name, and renames it: readers see a whole file.
-    fn write(&self, path: &str, end: Option<&EndTotals>) -> io::Result<()> {
-        let text = self.text(end)?;
+    fn write(&self, path: &str, totals: &RunTotals) -> io::Result<()> {
+        let text = self.text(totals)?;
         let new = format!(in self.alloc; "{path}.new")?;
         let mut file = File::create(self.host, new.as_str())?;
         file.write_all(text.as_bytes())?;
         fs::rename(self.host, new.as_str(), path)
     }
 
-    // Returns the metrics, a line each. Those that are known at the end only are left out before.
-    fn text(&self, end: Option<&EndTotals>) -> Result<String, AllocError> {
+    // Returns the metrics, a line each.
+    fn text(&self, totals: &RunTotals) -> Result<String, AllocError> {
         let mut text = String::new(self.alloc);
-        push_contexts(&mut text, self.contexts(), end)?;
-        if let Some(end) = end {
-            push_results(&mut text, end)?;
-        }
+        push_contexts(&mut text, self.contexts(), totals)?;
+        push_results(&mut text, &totals.results)?;
         for ring in 0..self.rings.len() {
-            let counts = end.and_then(|end| end.rings.get(ring).copied());
             push_records(
                 &mut text,
                 ring == 0,
                 self.rings[ring].name,
                 self.rings[ring].load(),
-                counts,
+                totals.requests.get(ring).copied().unwrap_or_default(),
             )?;
         }
         for kind in TAPE_GAUGES {
@@ -145,7 +168,7 @@ impl<'a> StreamMetrics<'a> {
                 )?;
             }
         }
-        push_end(&mut text, end, since_1970(self.host))?;
+        push_end(&mut text, totals.unlogged, since_1970(self.host))?;
         Ok(text)
     }
 
@@ -197,9 +220,19 @@ impl<'a> OutputWatch for StreamMetrics<'a> {
             && let Some(file) = self.file
             && self.is_due(file)
         {
-            let _ = self.write(file.path, None);
+            let _ = self.write_live(file.path);
         }
     }
+}
+
+// Returns live counts for the workers of a stream with these options, and for none if there is no file.
+fn live_counts(alloc: Global, options: &StreamOptions<'_>) -> Result<LiveCounts, AllocError> {
+    let workers = match options.metrics {
+        Some(_) => options.workers.min(256),
+        None => 0,
+    };
+    let (programs, rings) = (options.programs.len(), options.rings.len());
+    LiveCounts::new(alloc, workers, programs, rings, options.results)
 }
 
 // The seconds of the clock, and 0 if it cannot be read.

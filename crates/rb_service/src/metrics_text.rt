@@ -1,14 +1,13 @@
 //! Metrics in the text format of Prometheus.
 
-use rb_history::Counts;
 use rb_outputs::OutputTotals;
 use rb_source::ContextCounts;
 use rb_stream_worker::ResultCounts;
 use std::alloc::AllocError;
 
-/// What is known at the end of a stream only.
+/// What the reader and the workers of a stream did.
 #[derive(Drop)]
-pub(crate) struct EndTotals {
+pub(crate) struct RunTotals {
     /// The contexts that were run by every program.
     pub run: u64,
     /// The contexts that were dropped.
@@ -17,8 +16,17 @@ pub(crate) struct EndTotals {
     pub unlogged: u64,
     /// The results of each program.
     pub results: Vec<ResultCounts>,
-    /// The counts of each ring.
-    pub rings: Vec<Counts>,
+    /// The requests of each ring.
+    pub requests: Vec<Requests>,
+}
+
+/// The reservations and outputs of a ring.
+#[derive(Clone, Copy, Default)]
+pub(crate) struct Requests {
+    /// How many got a record.
+    pub made: u64,
+    /// How many were refused.
+    pub refused: u64,
 }
 
 /// A number of a ring's tape.
@@ -51,7 +59,7 @@ fn push_front(text: &mut String, name: &str, kind: &str, help: &str) -> Result<(
 pub(crate) fn push_contexts(
     text: &mut String,
     counts: ContextCounts,
-    end: Option<&EndTotals>,
+    totals: &RunTotals,
 ) -> Result<(), AllocError> {
     push_front(
         text,
@@ -62,11 +70,8 @@ pub(crate) fn push_contexts(
     push_context(text, "read", counts.given.saturating_add(counts.skipped))?;
     push_context(text, "skipped", counts.skipped)?;
     push_context(text, "cut", counts.cut)?;
-    if let Some(end) = end {
-        push_context(text, "run", end.run)?;
-        push_context(text, "dropped", end.dropped)?;
-    }
-    Ok(())
+    push_context(text, "run", totals.run)?;
+    push_context(text, "dropped", totals.dropped)
 }
 
 fn push_context(text: &mut String, state: &str, count: u64) -> Result<(), AllocError> {
@@ -74,15 +79,15 @@ fn push_context(text: &mut String, state: &str, count: u64) -> Result<(), AllocE
 }
 
 /// Appends the results of each program.
-pub(crate) fn push_results(text: &mut String, end: &EndTotals) -> Result<(), AllocError> {
+pub(crate) fn push_results(text: &mut String, results: &[ResultCounts]) -> Result<(), AllocError> {
     push_front(
         text,
         "runs_total",
         "counter",
         "Runs of programs by their result.",
     )?;
-    for program in 0..end.results.len() {
-        let counts = &end.results[program];
+    for program in 0..results.len() {
+        let counts = &results[program];
         for value in 0..counts.below.len() {
             let runs = counts.below[value];
             if runs > 0 {
@@ -107,7 +112,7 @@ pub(crate) fn push_records(
     is_first: bool,
     ring: &str,
     totals: OutputTotals,
-    counts: Option<Counts>,
+    requests: Requests,
 ) -> Result<(), AllocError> {
     if is_first {
         push_front(
@@ -120,11 +125,8 @@ pub(crate) fn push_records(
     push_record(text, ring, "consumed", totals.consumed)?;
     push_record(text, ring, "discarded", totals.discarded)?;
     push_record(text, ring, "unwritten", totals.unwritten)?;
-    if let Some(counts) = counts {
-        push_record(text, ring, "made", counts.made)?;
-        push_record(text, ring, "refused", counts.refused)?;
-    }
-    Ok(())
+    push_record(text, ring, "made", requests.made)?;
+    push_record(text, ring, "refused", requests.refused)
 }
 
 fn push_record(text: &mut String, ring: &str, state: &str, count: u64) -> Result<(), AllocError> {
@@ -168,22 +170,15 @@ pub(crate) fn push_tape(
     writeln!(text, "heskavo_{name}{{ring=\"{ring}\"}} {value}")
 }
 
-/// Appends the failures that no ring explains, if they are known, and the time.
-pub(crate) fn push_end(
-    text: &mut String,
-    end: Option<&EndTotals>,
-    seconds: u64,
-) -> Result<(), AllocError> {
-    if let Some(end) = end {
-        let unlogged = end.unlogged;
-        push_front(
-            text,
-            "unlogged_total",
-            "counter",
-            "Reservations and outputs that failed for another reason than a full ring.",
-        )?;
-        writeln!(text, "heskavo_unlogged_total {unlogged}")?;
-    }
+/// Appends the failures that no ring explains, and the time.
+pub(crate) fn push_end(text: &mut String, unlogged: u64, seconds: u64) -> Result<(), AllocError> {
+    push_front(
+        text,
+        "unlogged_total",
+        "counter",
+        "Reservations and outputs that failed for another reason than a full ring.",
+    )?;
+    writeln!(text, "heskavo_unlogged_total {unlogged}")?;
     push_front(
         text,
         "written_seconds",

@@ -15,7 +15,7 @@ ghost use Rattle.rb_service.specs.declared.service.ServiceFault.TheVariants.{Mem
 use crate::service::{Full, ServiceFault, ServiceRequest};
 use rb_source::Source;
 use rb_stream::{StreamFault, StreamReport, run_stream};
-use rb_stream_worker::Turns;
+use rb_stream_worker::{CountOptions, LiveCounts, Turns};
 use rb_verifier::Verified;
 use rb_waiting::{TurnFault, plan_turns, run_waiting_stream};
 use rb_workers::{Opened, Sink};
@@ -31,6 +31,7 @@ pub(crate) fn run_opened<T: Threads + Wait + Sync, I: Source + Send, S: Sink + S
     source: &mut I,
     opened: Vec<Opened<S>>,
     request: ServiceRequest,
+    live: &LiveCounts,
 ) -> Result<StreamReport<S>, ServiceFault>
     requires opened { AreOpened S.position_of opened.items }
     ensures fault { IfErr result (IsRightFault (vec_len opened) programs.now (I.ctx_len_of source.old) request.full (IsFirstTooSmall opened.items programs.now)) }
@@ -42,9 +43,9 @@ pub(crate) fn run_opened<T: Threads + Wait + Sync, I: Source + Send, S: Sink + S
     ensures nothing_left { IfOk result (λ r. All LeavesNothing r.rings.items) }
 {
     match request.full {
-        Full::Refuse => run_at_once(rt, alloc, programs, source, opened, request),
+        Full::Refuse => run_at_once(rt, alloc, programs, source, opened, request, live),
         Full::Wait => match plan_turns(alloc, opened.as_slice(), programs) {
-            Ok(turns) => run_in_turns(rt, alloc, programs, source, opened, turns, request),
+            Ok(turns) => run_in_turns(rt, alloc, programs, source, opened, turns, request, live),
             Err(fault) => Err(turn_fault(fault)),
         },
     }
@@ -58,6 +59,7 @@ fn run_at_once<T: Threads + Wait + Sync, I: Source + Send, S: Sink + Send + Drop
     source: &mut I,
     opened: Vec<Opened<S>>,
     request: ServiceRequest,
+    live: &LiveCounts,
 ) -> Result<StreamReport<S>, ServiceFault>
     requires opened { AreOpened S.position_of opened.items }
     requires refuses { request.full ≡ Full.Refuse }
@@ -69,8 +71,12 @@ fn run_at_once<T: Threads + Wait + Sync, I: Source + Send, S: Sink + Send + Drop
     ensures no_strays { IfOk result (λ r. r.strays ≡ 0) }
     ensures nothing_left { IfOk result (λ r. All LeavesNothing r.rings.items) }
 {
-    let (late, results) = (request.late, request.results);
-    match run_stream(rt, alloc, opened, programs, source, late, results) {
+    let late = request.late;
+    let options = CountOptions {
+        bound: request.results,
+        live,
+    };
+    match run_stream(rt, alloc, opened, programs, source, late, options) {
         Ok(report) => Ok(report),
         Err(stop) => Err(stream_fault(stop.fault)),
     }
@@ -85,6 +91,7 @@ fn run_in_turns<T: Threads + Wait + Sync, I: Source + Send, S: Sink + Send + Dro
     opened: Vec<Opened<S>>,
     turns: Turns,
     request: ServiceRequest,
+    live: &LiveCounts,
 ) -> Result<StreamReport<S>, ServiceFault>
     requires opened { AreOpened S.position_of opened.items }
     requires planned { IsPlan opened.items programs.now turns }
@@ -97,8 +104,12 @@ fn run_in_turns<T: Threads + Wait + Sync, I: Source + Send, S: Sink + Send + Dro
     ensures no_strays { IfOk result (λ r. r.strays ≡ 0) }
     ensures nothing_left { IfOk result (λ r. All LeavesNothing r.rings.items) }
 {
-    let (late, results) = (request.late, request.results);
-    match run_waiting_stream(rt, alloc, opened, programs, source, late, results, turns) {
+    let late = request.late;
+    let options = CountOptions {
+        bound: request.results,
+        live,
+    };
+    match run_waiting_stream(rt, alloc, opened, programs, source, late, options, turns) {
         Ok(report) => Ok(report),
         Err(stop) => Err(stream_fault(stop.fault)),
     }

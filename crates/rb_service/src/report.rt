@@ -6,11 +6,10 @@ ghost use Rattle.rb_service.specs.Counters.{AppendsCounters};
 
 use crate::counters::counters_text;
 use crate::metrics::StreamMetrics;
-use crate::metrics_text::EndTotals;
+use crate::metrics_text::{Requests, RunTotals};
 use crate::options::StreamOptions;
 use crate::output_files::MeasuredOutput;
 use crate::refusal::StreamRefusal;
-use rb_history::Counts;
 use rb_outputs::OutputEnd;
 use rb_segments::mark_end;
 use rb_source::{ContextCounts, SourceFault};
@@ -78,13 +77,17 @@ fn mark_ring(
     }
 }
 
-// Returns the counts of the rings.
-fn ring_counts<S>(alloc: Global, rings: &[Ended<S>]) -> Result<Vec<Counts>, AllocError> {
-    let mut counts = Vec::new(alloc);
+// Returns the requests of the rings.
+fn ring_requests<S>(alloc: Global, rings: &[Ended<S>]) -> Result<Vec<Requests>, AllocError> {
+    let mut requests = Vec::new(alloc);
     for at in 0..rings.len() {
-        counts.push(rings[at].closing.counts())?;
+        let counts = rings[at].closing.counts();
+        requests.push(Requests {
+            made: counts.made,
+            refused: counts.refused,
+        })?;
     }
-    Ok(counts)
+    Ok(requests)
 }
 
 // Appends the counters of this report to `printed`.
@@ -142,12 +145,12 @@ fn end_outputs<'a, W: Write + Drop>(
         strays: _,
         end,
     } = report;
-    let totals = EndTotals {
+    let totals = RunTotals {
         run: ran,
         dropped,
         unlogged,
         results,
-        rings: ring_counts(alloc, rings.as_slice())?,
+        requests: ring_requests(alloc, rings.as_slice())?,
     };
     let failed = finish_outputs(metrics.host, alloc, options, rings);
     let is_written = metrics.write_end(&totals);

@@ -16,6 +16,7 @@ use crate::opened_run::run_opened;
 use crate::rings::{PlanFault, RingPlan, check_plans, open_rings};
 use rb_source::Source;
 use rb_stream::{Late, StreamReport};
+use rb_stream_worker::LiveCounts;
 use rb_verifier::Verified;
 use rb_waiting::SmallRing;
 use rb_workers::Sink;
@@ -77,7 +78,7 @@ pub enum ServiceFault {
 
 /// Opens a ring for each plan, at the position of its sink, runs every program on each context of the source, and closes
 /// the rings once the source has ended or failed. Each ring's records go to its sink. Every context that the source gave was run
-/// by every program or dropped.
+/// by every program or dropped. Workers publish their counts in `live` while they run.
 ///
 /// If workers wait for room, no seat and no history of a ring has a refusal, provided that the ring's producer position
 /// stays at least the ring's size below 2^62 (`Closing::producer` returns it).
@@ -95,6 +96,7 @@ pub fn serve<T: Threads + Wait + Sync, I: Source + Send, S: Sink + Send + Drop>(
     source: &mut I,
     plans: Vec<RingPlan<S>>,
     request: ServiceRequest,
+    live: &LiveCounts,
 ) -> Result<StreamReport<S>, ServiceFault>
     requires begins { All (λ p. IsStartPosition (S.position_of p.sink)) plans.items }
     ensures size { (number : ℕ) → IsErrOf result (Size number) ↔ IsFirstWrong plans.items number }
@@ -112,7 +114,7 @@ pub fn serve<T: Threads + Wait + Sync, I: Source + Send, S: Sink + Send + Drop>(
     ensures nothing_left { IfOk result (λ r. All LeavesNothing r.rings.items) }
 {
     match check_plans(plans.as_slice(), request.workers) {
-        Ok(()) => serve_planned(rt, alloc, programs, source, plans, request),
+        Ok(()) => serve_planned(rt, alloc, programs, source, plans, request, live),
         Err(PlanFault::Size(number)) => Err(ServiceFault::Size(number)),
         Err(PlanFault::Workers) => Err(ServiceFault::Workers),
     }
@@ -126,6 +128,7 @@ fn serve_planned<T: Threads + Wait + Sync, I: Source + Send, S: Sink + Send + Dr
     source: &mut I,
     plans: Vec<RingPlan<S>>,
     request: ServiceRequest,
+    live: &LiveCounts,
 ) -> Result<StreamReport<S>, ServiceFault>
     requires begins { All (λ p. IsStartPosition (S.position_of p.sink)) plans.items }
     requires sizes { All (λ p. IsRingSize p.size) plans.items }
@@ -142,7 +145,7 @@ fn serve_planned<T: Threads + Wait + Sync, I: Source + Send, S: Sink + Send + Dr
     let Ok(opened) = open_rings(rt, alloc, plans, request.workers) else {
         return Err(ServiceFault::Memory);
     };
-    match run_opened(rt, alloc, programs, source, opened, request) {
+    match run_opened(rt, alloc, programs, source, opened, request, live) {
         Ok(report) => Ok(report),
         Err(fault) => Err(fault),
     }

@@ -12,7 +12,7 @@ use crate::report::{StreamFault, StreamReport, StreamStop};
 use crate::stream_run::run_stream_as;
 use rb_dealing::Late;
 use rb_source::Source;
-use rb_stream_worker::WhenFull;
+use rb_stream_worker::{CountOptions, WhenFull};
 use rb_verifier::Verified;
 use rb_workers::{Opened, Sink};
 use std::alloc::Global;
@@ -32,7 +32,7 @@ use std::thread::Threads;
 /// If no thread can be started, its work is done on the calling thread: the reader's first, then the workers', then the
 /// consumers'. With `Late::Block`, the reader then waits forever once the workers' queues are full.
 ///
-/// For each program, there is a separate count for each result below `bound`, and one for all others together. Without
+/// For each program, there is a separate count for each result below the bound, and one for all others together. Without
 /// a program, contexts are read and dealt, and nothing runs over them.
 ///
 /// A source that fails ends the stream like one that is over; the report has its fault. The report covers everything
@@ -56,7 +56,7 @@ pub fn run_stream<R: Threads + Wait + Sync, I: Source + Send, S: Sink + Send + D
     programs: &[Verified],
     source: &mut I,
     late: Late,
-    bound: u32,
+    options: CountOptions<'_>,
 ) -> Result<StreamReport<S>, StreamStop<S>>
     requires opened { AreOpened S.position_of opened.items }
     ensures unknown_ring { StopsFor StreamFault.UnknownRing result ↔ (has_unknown_ring (vec_len opened) programs.now ≡ true) }
@@ -64,7 +64,7 @@ pub fn run_stream<R: Threads + Wait + Sync, I: Source + Send, S: Sink + Send + D
     ensures no_worker { StopsFor StreamFault.NoWorker result ↔ ((has_unknown_ring (vec_len opened) programs.now ≡ false) × (has_other_length (I.ctx_len_of source.old) programs.now ≡ false) × (workers_of opened.items ≡ 0)) }
     ensures nothing_read { IfErr result (λ stop. stop.fault ≢ StreamFault.Memory → (stop.opened ≡ opened) × (source.new ≡ source.old)) }
     ensures stopped { IfErr result (IsStopped S.position_of S.takes I.gives opened.items programs.now source.old source.new) }
-    ensures streamed { IfOk result (IsStreamed S.position_of S.takes I.gives opened.items programs.now bound source.old source.new) }
+    ensures streamed { IfOk result (IsStreamed S.position_of S.takes I.gives opened.items programs.now options.entry.bound source.old source.new) }
     ensures end { IfOk result (λ r. EndsSource I.is_over I.fails source.new r.end) }
     ensures no_strays { IfOk result (λ r. r.strays ≡ 0) }
     ensures nothing_left { IfOk result (λ r. All LeavesNothing r.rings.items) }
@@ -77,7 +77,7 @@ pub fn run_stream<R: Threads + Wait + Sync, I: Source + Send, S: Sink + Send + D
         programs,
         source,
         late,
-        bound,
+        options,
         &WhenFull::Refuse,
     )
 }

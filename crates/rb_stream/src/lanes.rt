@@ -8,7 +8,7 @@ ghost use Rattle.rb_stream.specs.inner.Lanes.{AreNewLanes, SwapsSeats};
 use crate::totals::add_counts;
 use rb_dealing::{Lane, LaneFeed, add_lane};
 use rb_shared_ring::SharedRing;
-use rb_stream_worker::{StreamCounts, StreamWorker, WhenFull};
+use rb_stream_worker::{CountOptions, StreamCounts, StreamWorker, WhenFull};
 use rb_verifier::Verified;
 use rb_workers::run_parts::Worker;
 use std::alloc::{AllocError, Global};
@@ -30,19 +30,19 @@ pub(crate) fn make_lanes<'w, R, K>(
     programs: &'w [Verified],
     full: &'w WhenFull,
     ctx_len: u32,
-    bound: u32,
+    options: CountOptions<'w>,
     stock: &'w K,
     workers: &[Worker],
 ) -> Result<Lanes<'w, R, K>, AllocError>
     requires numbered { (k : ℕ) (d : _) → k < length workers.now → (slice_index_or workers.now k d).number ≡ k }
-    ensures new { IfOk result (AreNewLanes (length workers.now) rings.now programs.now full.now ctx_len bound) }
+    ensures new { IfOk result (AreNewLanes (length workers.now) rings.now programs.now full.now ctx_len options.entry.bound) }
 {
     let mut feeds = Vec::new(alloc);
     let mut lanes = Vec::new(alloc);
     for at in 0..workers.len() {
         let number = workers[at].number;
         let worker = StreamWorker::new(
-            rt, alloc, number, rings, programs, full, ctx_len, stock, bound,
+            rt, alloc, number, rings, programs, full, ctx_len, stock, options,
         )?;
         add_lane(alloc, worker, &mut feeds, &mut lanes)?;
     }

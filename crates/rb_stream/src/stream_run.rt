@@ -28,7 +28,7 @@ use rb_dealing::{DealEnd, Dealt, Late};
 use rb_lend::Sheet;
 use rb_shared_ring::SharedRing;
 use rb_source::Source;
-use rb_stream_worker::{StreamCounts, WhenFull};
+use rb_stream_worker::{CountOptions, StreamCounts, WhenFull};
 use rb_verifier::Verified;
 use rb_workers::run_parts::{
     ConsumerTask, RunBuffers, Worker, close_all, count_workers, make_buffers, merge, split,
@@ -54,7 +54,7 @@ fn run_split<R: Threads + Wait + Sync, I: Source + Send, S: Sink + Send>(
     sheets: &ArrayQueue<Sheet>,
     workers: &mut [Worker],
     consumers: &mut [ConsumerTask<S>],
-    bound: u32,
+    options: CountOptions<'_>,
     dealt: &mut Dealt,
     total: &mut StreamCounts,
 )
@@ -64,8 +64,8 @@ fn run_split<R: Threads + Wait + Sync, I: Source + Send, S: Sink + Send>(
     requires seats { All (λ w. AtRings rings.now w.seats.items) workers.old }
     requires consumers { AllZip (IsConsumerTaskOf S.position_of) rings.now consumers.old }
     requires dealt { (dealt.old.contexts ≡ 0) × (dealt.old.dropped ≡ 0) × IsEndOf I.is_over I.fails source.old dealt.old.end }
-    requires total { IsNewCounts (length programs.now) bound total.old }
-    ensures ran { StreamRan I.gives (length workers.old) programs.now full.now bound source.old source.new (seats_of workers.old) (seats_of workers.new) dealt.new total.new }
+    requires total { IsNewCounts (length programs.now) options.entry.bound total.old }
+    ensures ran { StreamRan I.gives (length workers.old) programs.now full.now options.entry.bound source.old source.new (seats_of workers.old) (seats_of workers.new) dealt.new total.new }
     ensures end { IsEndOf I.is_over I.fails source.new dealt.new.end }
     ensures seats { All (λ w. AtRings rings.now w.seats.items) workers.new }
     ensures consumers { AllZip (Consumed S.position_of S.takes) consumers.old consumers.new }
@@ -73,7 +73,7 @@ fn run_split<R: Threads + Wait + Sync, I: Source + Send, S: Sink + Send>(
     gives_nothing::<I>();
     let stock = UsedSheets { rt, sheets };
     let made = make_lanes(
-        rt, alloc, rings, programs, full, ctx_len, bound, &stock, workers,
+        rt, alloc, rings, programs, full, ctx_len, options, &stock, workers,
     );
     let Ok(
         Lanes {
@@ -91,6 +91,7 @@ fn run_split<R: Threads + Wait + Sync, I: Source + Send, S: Sink + Send>(
         rings,
         source,
         late,
+        &options.live.dropped,
         sheets,
         feeds.as_mut_slice(),
         lanes.as_mut_slice(),
@@ -117,7 +118,7 @@ fn run_in<R: Threads + Wait + Sync, I: Source + Send, S: Sink + Send + Drop>(
     sheets: &ArrayQueue<Sheet>,
     merged: Vec<Opened<S>>,
     workers: &mut [Worker],
-    bound: u32,
+    options: CountOptions<'_>,
     dealt: &mut Dealt,
     total: &mut StreamCounts,
 ) -> Vec<Opened<S>>
@@ -130,10 +131,10 @@ fn run_in<R: Threads + Wait + Sync, I: Source + Send, S: Sink + Send + Drop>(
     requires room { (vec_len opened ≤ vec_capacity rings) × (vec_len opened ≤ vec_capacity consumers) × (vec_len opened ≤ vec_capacity merged) }
     requires workers { (k : ℕ) (d : _) → k < length workers.old → IsNew k (vec_len opened) (slice_index_or workers.old k d) }
     requires dealt { (dealt.old.contexts ≡ 0) × (dealt.old.dropped ≡ 0) × IsEndOf I.is_over I.fails source.old dealt.old.end }
-    requires total { IsNewCounts (length programs.now) bound total.old }
+    requires total { IsNewCounts (length programs.now) options.entry.bound total.old }
     ensures returned { AreReturned S.position_of S.takes opened.items result.items }
     ensures consumed { AllZip (IsConsumed S.position_of S.takes) opened.items result.items }
-    ensures ran { StreamRan I.gives (workers_of opened.items) programs.now full.now bound source.old source.new (λ k. worker_column k (seat_rows opened.items)) (λ k. worker_column k (seat_rows result.items)) dealt.new total.new }
+    ensures ran { StreamRan I.gives (workers_of opened.items) programs.now full.now options.entry.bound source.old source.new (λ k. worker_column k (seat_rows opened.items)) (λ k. worker_column k (seat_rows result.items)) dealt.new total.new }
     ensures end { IsEndOf I.is_over I.fails source.new dealt.new.end }
 {
     split(opened, &mut rings, &mut consumers, batches, workers);
@@ -149,7 +150,7 @@ fn run_in<R: Threads + Wait + Sync, I: Source + Send, S: Sink + Send + Drop>(
         sheets,
         workers,
         &mut consumers,
-        bound,
+        options,
         dealt,
         total,
     );
@@ -173,7 +174,7 @@ fn run_and_empty<R: Threads + Wait + Sync, I: Source + Send, S: Sink + Send + Dr
     sheets: &ArrayQueue<Sheet>,
     merged: Vec<Opened<S>>,
     workers: &mut [Worker],
-    bound: u32,
+    options: CountOptions<'_>,
     dealt: &mut Dealt,
     total: &mut StreamCounts,
 ) -> Vec<Opened<S>>
@@ -186,15 +187,15 @@ fn run_and_empty<R: Threads + Wait + Sync, I: Source + Send, S: Sink + Send + Dr
     requires room { (vec_len opened ≤ vec_capacity rings) × (vec_len opened ≤ vec_capacity consumers) × (vec_len opened ≤ vec_capacity merged) }
     requires workers { (k : ℕ) (d : _) → k < length workers.old → IsNew k (vec_len opened) (slice_index_or workers.old k d) }
     requires dealt { (dealt.old.contexts ≡ 0) × (dealt.old.dropped ≡ 0) × IsEndOf I.is_over I.fails source.old dealt.old.end }
-    requires total { IsNewCounts (length programs.now) bound total.old }
+    requires total { IsNewCounts (length programs.now) options.entry.bound total.old }
     ensures returned { AreReturned S.position_of S.takes opened.items result.items }
     ensures drained { All IsDrained result.items }
-    ensures ran { StreamRan I.gives (workers_of opened.items) programs.now full.now bound source.old source.new (λ k. worker_column k (seat_rows opened.items)) (λ k. worker_column k (seat_rows result.items)) dealt.new total.new }
+    ensures ran { StreamRan I.gives (workers_of opened.items) programs.now full.now options.entry.bound source.old source.new (λ k. worker_column k (seat_rows opened.items)) (λ k. worker_column k (seat_rows result.items)) dealt.new total.new }
     ensures end { IsEndOf I.is_over I.fails source.new dealt.new.end }
 {
     let mut merged = run_in(
         rt, alloc, opened, programs, full, ctx_len, source, late, rings, consumers, batches,
-        sheets, merged, workers, bound, dealt, total,
+        sheets, merged, workers, options, dealt, total,
     );
     take_rests(rt, merged.as_mut_slice(), rest);
     merged
@@ -227,16 +228,16 @@ fn run_known<R: Threads + Wait + Sync, I: Source + Send, S: Sink + Send + Drop>(
     source: &mut I,
     late: Late,
     buffers: RunBuffers<S>,
-    bound: u32,
+    options: CountOptions<'_>,
     mut total: StreamCounts,
 ) -> Result<StreamReport<S>, StreamStop<S>>
     requires opened { AreOpened S.position_of opened.items }
     requires fit { All (IsProgramFor (vec_len opened) ctx_len) programs.now }
     requires limits { FitsRings full.now (vec_len opened) }
     requires buffers { HasRoomForRun (workers_of opened.items) (vec_len opened) 0 buffers }
-    requires total { IsNewCounts (length programs.now) bound total }
+    requires total { IsNewCounts (length programs.now) options.entry.bound total }
     ensures memory { IfErr result (λ stop. stop.fault ≡ StreamFault.Memory) }
-    ensures streamed { IfOk result (IsStreamedAs full.now S.position_of S.takes I.gives opened.items programs.now bound source.old source.new) }
+    ensures streamed { IfOk result (IsStreamedAs full.now S.position_of S.takes I.gives opened.items programs.now options.entry.bound source.old source.new) }
     ensures end { IfOk result (λ r. EndsSource I.is_over I.fails source.new r.end) }
     ensures no_strays { IfOk result (λ r. r.strays ≡ 0) }
     ensures nothing_left { IfOk result (λ r. All LeavesNothing r.rings.items) }
@@ -276,7 +277,7 @@ fn run_known<R: Threads + Wait + Sync, I: Source + Send, S: Sink + Send + Drop>(
         &sheets,
         merged,
         workers.as_mut_slice(),
-        bound,
+        options,
         &mut dealt,
         &mut total,
     );
@@ -325,7 +326,7 @@ pub fn run_stream_as<R: Threads + Wait + Sync, I: Source + Send, S: Sink + Send 
     programs: &[Verified],
     source: &mut I,
     late: Late,
-    bound: u32,
+    options: CountOptions<'_>,
     full: &WhenFull,
 ) -> Result<StreamReport<S>, StreamStop<S>>
     requires opened { AreOpened S.position_of opened.items }
@@ -335,7 +336,7 @@ pub fn run_stream_as<R: Threads + Wait + Sync, I: Source + Send, S: Sink + Send 
     ensures no_worker { StopsFor StreamFault.NoWorker result ↔ ((has_unknown_ring (vec_len opened) programs.now ≡ false) × (has_other_length (I.ctx_len_of source.old) programs.now ≡ false) × (workers_of opened.items ≡ 0)) }
     ensures nothing_read { IfErr result (λ stop. stop.fault ≢ StreamFault.Memory → (stop.opened ≡ opened) × (source.new ≡ source.old)) }
     ensures stopped { IfErr result (IsStoppedAs full.now S.position_of S.takes I.gives opened.items programs.now source.old source.new) }
-    ensures streamed { IfOk result (IsStreamedAs full.now S.position_of S.takes I.gives opened.items programs.now bound source.old source.new) }
+    ensures streamed { IfOk result (IsStreamedAs full.now S.position_of S.takes I.gives opened.items programs.now options.entry.bound source.old source.new) }
     ensures end { IfOk result (λ r. EndsSource I.is_over I.fails source.new r.end) }
     ensures no_strays { IfOk result (λ r. r.strays ≡ 0) }
     ensures nothing_left { IfOk result (λ r. All LeavesNothing r.rings.items) }
@@ -354,14 +355,14 @@ pub fn run_stream_as<R: Threads + Wait + Sync, I: Source + Send, S: Sink + Send 
     if count == 0 {
         return Err(StreamStop::refusal(StreamFault::NoWorker, opened));
     }
-    let Ok(total) = StreamCounts::new(alloc, programs.len(), bound) else {
+    let Ok(total) = StreamCounts::new(alloc, programs.len(), options.bound) else {
         return Err(StreamStop::refusal(StreamFault::Memory, opened));
     };
     let Ok(buffers) = make_buffers(alloc, count, &[], opened.len(), 0) else {
         return Err(StreamStop::refusal(StreamFault::Memory, opened));
     };
     match run_known(
-        rt, alloc, opened, programs, full, ctx_len, source, late, buffers, bound, total,
+        rt, alloc, opened, programs, full, ctx_len, source, late, buffers, options, total,
     ) {
         Ok(report) => Ok(report),
         Err(stop) => Err(stop),

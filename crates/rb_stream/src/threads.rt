@@ -15,7 +15,7 @@ use rb_workers::Sink;
 use rb_workers::run_parts::{ConsumerTask, consume_all};
 use std::alloc::Global;
 use std::sync::Wait;
-use std::sync::atomic::{AtomicBool, Ordering};
+use std::sync::atomic::{AtomicBool, AtomicU64, Ordering};
 use std::thread::{Threads, join_mut};
 
 /// Deals the contexts of the source to the lanes, runs the lanes and consumes the rings, until the lanes have ended and
@@ -32,6 +32,7 @@ pub(crate) fn run_threads<
     rings: &[SharedRing],
     source: &mut I,
     late: Late,
+    dropped: &AtomicU64,
     sheets: &ArrayQueue<Sheet>,
     feeds: &mut [LaneFeed],
     lanes: &mut [Lane<W>],
@@ -58,7 +59,7 @@ pub(crate) fn run_threads<
             requires { All (λ lane. W.ready lane.worker) lanes.now × AreFeedsOf feeds.now lanes.now × AreEmptyQueues feeds.now lanes.now }
             ensures { RunsStream I.gives W.ready W.runs source.entry.now source.exit.now lanes.entry.now lanes.exit.now dealt.exit.now × IsEndOf I.is_over I.fails source.exit.now dealt.exit.now.end }
         {
-            *dealt = run_lanes(rt, alloc, source, late, feeds, lanes);
+            *dealt = run_lanes(rt, alloc, source, late, dropped, feeds, lanes);
             shared.store(true, Ordering::SeqCst);
         },
     );

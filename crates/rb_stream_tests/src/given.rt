@@ -6,6 +6,7 @@ ghost use Rattle.rb_workers.specs.Opened.{AreOpened, IsOpened};
 use rb_history::span;
 use rb_program::{from_text, shape};
 use rb_source::{Filled, ListSource, Piece, Source, SourceFault};
+use rb_stream_worker::{CountOptions, LiveCounts};
 use rb_verifier::{Verified, verify};
 use rb_workers::{Chapter, Item, Opened, Sink};
 use std::alloc::Global;
@@ -129,6 +130,18 @@ impl Sink for EventSum {
     fn chapter(&mut self, _: &Chapter) {}
 
     fn caught_up(&mut self) {}
+}
+
+/// Returns the counts of a stream while it runs, for no worker.
+pub(crate) fn nothing_live(rt: &impl Abort, alloc: Global) -> LiveCounts {
+    LiveCounts::new(alloc, 0, 0, 0, 16).expect(rt, "memory")
+}
+
+/// Returns options by which the results 0 to 15 are counted individually.
+pub(crate) fn counted_live<'c>(live: &'c LiveCounts) -> CountOptions<'c>
+    ensures { result.bound ≡ 16 }
+{
+    CountOptions { bound: 16, live }
 }
 
 // Returns a ring of this size with a seat for each worker.

@@ -4,10 +4,13 @@
 ghost use Rattle.std.specs.Prelude.{◌≡◌};
 ghost use Rattle.rb_workers.specs.Opened.{AreOpened, IsOpened};
 
-use super::given::{OUTPUT_CONTEXT, OneByOne, contexts, same, verified};
+use super::given::{
+    OUTPUT_CONTEXT, OneByOne, contexts, counted_live, nothing_live, same, verified,
+};
 use rb_history::span;
 use rb_source::{Filled, Piece, Source, SourceFault};
 use rb_stream::{Late, StreamReport, run_stream};
+use rb_stream_worker::LiveCounts;
 use rb_verifier::Verified;
 use rb_waiting::{plan_turns, run_waiting_stream};
 use rb_workers::{Chapter, Item, Opened, Sink};
@@ -25,11 +28,13 @@ const CONTEXTS: u32 = 700;
 // of which the consumer took the first, a queue of 64 pieces, and one context at the worker.
 const ROOM: u64 = 577;
 
-/// A source that sets a flag when it is over.
+/// A source that sets a flag when it is over, and then reads how many contexts were dropped.
 #[derive(Drop)]
 struct Announced<'a> {
     inner: OneByOne<'a>,
     over: &'a AtomicBool,
+    live: &'a LiveCounts,
+    dropped: u64,
 }
 
 impl<'a> Source for Announced<'a> {
@@ -53,6 +58,7 @@ impl<'a> Source for Announced<'a> {
         let filled = self.inner.fill(piece);
         if filled != Ok(Filled::More) {
             self.over.store(true, Ordering::SeqCst);
+            self.dropped = self.live.dropped.load(Ordering::SeqCst);
         }
         filled
     }
@@ -152,7 +158,17 @@ fn dropping<'a, R: Threads + Wait + Sync + Abort>(
     let Ok(turns) = plan_turns(alloc, &rings, programs) else {
         rt.panic("no plan")
     };
-    match run_waiting_stream(rt, alloc, rings, programs, source, Late::Drop, 16, turns) {
+    let options = counted_live(source.live);
+    match run_waiting_stream(
+        rt,
+        alloc,
+        rings,
+        programs,
+        source,
+        Late::Drop,
+        options,
+        turns,
+    ) {
         Ok(report) => report,
         Err(_) => rt.panic("no report"),
     }
@@ -168,7 +184,8 @@ fn refusing<'a, R: Threads + Wait + Sync + Abort>(
 ) -> StreamReport<HeldSink<'a>>
     requires { AreOpened (λ s. s.position) rings.items }
 {
-    match run_stream(rt, alloc, rings, programs, source, Late::Block, 16) {
+    let options = counted_live(source.live);
+    match run_stream(rt, alloc, rings, programs, source, Late::Block, options) {
         Ok(report) => report,
         Err(_) => rt.panic("no report"),
     }
@@ -187,10 +204,12 @@ fn counted(report: &StreamReport<HeldSink<'_>>) -> (u64, u64) {
 }
 
 // Returns a source of these contexts, which sets the flag when it is over.
-fn source_of<'a>(list: &'a [Vec<u8>], over: &'a AtomicBool) -> Announced<'a> {
+fn source_of<'a>(list: &'a [Vec<u8>], over: &'a AtomicBool, live: &'a LiveCounts) -> Announced<'a> {
     Announced {
         inner: OneByOne { list, next: 0 },
         over,
+        live,
+        dropped: 0,
     }
 }
 
@@ -201,7 +220,8 @@ fn late_contexts_are_dropped_and_counted(rt: HostRuntime) {
     let programs = vec![in alloc; program].expect(&rt, "memory");
     let all = contexts(&rt, alloc, CONTEXTS);
     let over = AtomicBool::new(false);
-    let mut source = source_of(&all, &over);
+    let live = nothing_live(&rt, alloc);
+    let mut source = source_of(&all, &over, &live);
     let rings = one_ring(&rt, alloc, &over);
     let report = dropping(&rt, alloc, rings, &programs, &mut source);
     same(
@@ -215,8 +235,8 @@ fn late_contexts_are_dropped_and_counted(rt: HostRuntime) {
     );
     same(
         &rt,
-        &(counted(&report), report.unlogged),
-        &((0, report.ran), 0),
+        &(counted(&report), report.unlogged, source.dropped),
+        &((0, report.ran), 0, report.dropped),
     );
 }
 
@@ -227,7 +247,8 @@ fn records_are_refused_without_waiting(rt: HostRuntime) {
     let programs = vec![in alloc; program].expect(&rt, "memory");
     let all = contexts(&rt, alloc, CONTEXTS);
     let over = AtomicBool::new(false);
-    let mut source = source_of(&all, &over);
+    let live = nothing_live(&rt, alloc);
+    let mut source = source_of(&all, &over, &live);
     let rings = one_ring(&rt, alloc, &over);
     let report = refusing(&rt, alloc, rings, &programs, &mut source);
     let (refused, records) = counted(&report);

@@ -1,10 +1,25 @@
-//! Tests of streams, through the public interface alone and on threads.
+//! Tests of streams by public calls alone: contexts as they come, and how they are dealt to workers; a worker, and whole
+//! streams on threads; tapes in segments, in memory and in a directory that `follow` reads; outputs of lines.
 #![tactic(auto)]
 
+#[cfg(test)]
+mod dealt;
+#[cfg(test)]
+mod followed;
+#[cfg(test)]
+mod framed_streams;
 #[cfg(test)]
 mod given;
 #[cfg(test)]
 mod held;
+#[cfg(test)]
+mod in_memory;
+#[cfg(test)]
+mod lines;
+#[cfg(test)]
+mod live;
+#[cfg(test)]
+mod pieces;
 #[cfg(test)]
 mod refused;
 #[cfg(test)]
@@ -13,3 +28,5 @@ mod runs;
 mod service;
 #[cfg(test)]
 mod waiting;
+#[cfg(test)]
+mod worker;

@@ -2,7 +2,9 @@
 
 ghost use Rattle.std.specs.Prelude.{◌≡◌, ◌≤◌};
 
-use super::given::{FIRST_BYTE, OUTPUT_TO_SECOND, contexts, same, two_rings, verified};
+use super::given::{
+    FIRST_BYTE, OUTPUT_TO_SECOND, contexts, counted_live, nothing_live, same, two_rings, verified,
+};
 use rb_source::ListSource;
 use rb_stream::{Late, StreamFault, run_stream};
 use rb_verifier::Verified;
@@ -27,7 +29,17 @@ fn refusal<R: Threads + Wait + Sync + Abort>(
         rings = two_rings(rt, alloc, 4_096, 2, 0);
     }
     let programs = vec![in alloc; program].expect(rt, "memory");
-    match run_stream(rt, alloc, rings, &programs, &mut source, Late::Block, 16) {
+    let live = nothing_live(rt, alloc);
+    let options = counted_live(&live);
+    match run_stream(
+        rt,
+        alloc,
+        rings,
+        &programs,
+        &mut source,
+        Late::Block,
+        options,
+    ) {
         Ok(_) => rt.panic("a report"),
         Err(stop) => (stop.fault, stop.opened.len()),
     }

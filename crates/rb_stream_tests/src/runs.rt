@@ -4,8 +4,8 @@ ghost use Rattle.std.specs.Prelude.{◌≡◌};
 ghost use Rattle.rb_workers.specs.Opened.{AreOpened};
 
 use super::given::{
-    EventSum, FIRST_BYTE, Failing, OUTPUT_CONTEXT, OUTPUT_TO_SECOND, contexts, same, two_rings,
-    verified,
+    EventSum, FIRST_BYTE, Failing, OUTPUT_CONTEXT, OUTPUT_TO_SECOND, contexts, counted_live,
+    nothing_live, same, two_rings, verified,
 };
 use rb_source::{ListSource, Source, SourceFault};
 use rb_stream::{Late, StreamEnd, StreamReport, run_stream};
@@ -28,14 +28,16 @@ fn report<R: Threads + Wait + Sync + Abort, I: Source + Send>(
 ) -> StreamReport<EventSum>
     requires { AreOpened (λ a. a.position) rings.items }
 {
-    match run_stream(rt, alloc, rings, programs, source, late, 16) {
+    let live = nothing_live(rt, alloc);
+    let options = counted_live(&live);
+    match run_stream(rt, alloc, rings, programs, source, late, options) {
         Ok(report) => report,
         Err(_) => rt.panic("no report"),
     }
 }
 
-// Returns three programs: one for each of two rings, and one that returns the first byte.
-fn three_programs<A: Abort>(rt: &A, alloc: Global) -> Vec<Verified> {
+/// Returns three programs: one for each of two rings, and one that returns the first byte.
+pub(crate) fn three_programs<A: Abort>(rt: &A, alloc: Global) -> Vec<Verified> {
     let first = verified(rt, alloc, OUTPUT_CONTEXT, 16, 2);
     let second = verified(rt, alloc, OUTPUT_TO_SECOND, 16, 2);
     let third = verified(rt, alloc, FIRST_BYTE, 16, 2);

@@ -2,7 +2,7 @@
 
 ghost use Rattle.std.specs.Prelude.{◌≡◌, All};
 
-use super::given::{EventSum, OUTPUT_CONTEXT, contexts, same, verified};
+use super::given::{EventSum, OUTPUT_CONTEXT, contexts, nothing_live, same, verified};
 use rb_service::{Full, RingPlan, ServiceRequest, counters_text, serve};
 use rb_source::{ContextCounts, ListSource};
 use rb_stream::{Late, StreamReport};
@@ -35,7 +35,8 @@ fn three_events<R: Threads + Wait + Sync + Abort>(rt: &R, alloc: Global) -> Stre
         full: Full::Wait,
         results: 16,
     };
-    match serve(rt, alloc, &programs, &mut source, plans, request) {
+    let live = nothing_live(rt, alloc);
+    match serve(rt, alloc, &programs, &mut source, plans, request, &live) {
         Ok(report) => report,
         Err(_) => rt.panic("no report"),
     }

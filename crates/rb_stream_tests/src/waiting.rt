@@ -4,7 +4,8 @@ ghost use Rattle.std.specs.Prelude.{◌≡◌};
 ghost use Rattle.rb_workers.specs.Opened.{AreOpened};
 
 use super::given::{
-    EventSum, OUTPUT_CONTEXT, OUTPUT_TO_SECOND, contexts, same, two_rings, verified,
+    EventSum, OUTPUT_CONTEXT, OUTPUT_TO_SECOND, contexts, counted_live, nothing_live, same,
+    two_rings, verified,
 };
 use rb_source::{ListSource, Source};
 use rb_stream::{Late, StreamReport};
@@ -49,7 +50,18 @@ fn waited<R: Threads + Wait + Sync + Abort, I: Source + Send>(
         rt.panic("no plan")
     };
     let contexts = turns.contexts;
-    match run_waiting_stream(rt, alloc, rings, programs, source, Late::Block, 16, turns) {
+    let live = nothing_live(rt, alloc);
+    let options = counted_live(&live);
+    match run_waiting_stream(
+        rt,
+        alloc,
+        rings,
+        programs,
+        source,
+        Late::Block,
+        options,
+        turns,
+    ) {
         Ok(report) => (report, contexts),
         Err(_) => rt.panic("no report"),
     }

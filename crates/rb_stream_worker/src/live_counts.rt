@@ -69,7 +69,7 @@ impl LiveResults {
     fn new(alloc: Global, bound: u32) -> Result<LiveResults, AllocError> {
         let mut below = Vec::with_capacity(alloc, bound as usize)?;
         for _ in 0..bound {
-            below.push_reserved(AtomicU64::new(0));
+            below.push(AtomicU64::new(0))?;
         }
         Ok(LiveResults {
             below,
@@ -109,14 +109,14 @@ impl LiveWorker {
     ) -> Result<LiveWorker, AllocError> {
         let mut results = Vec::with_capacity(alloc, programs)?;
         for _ in 0..programs {
-            results.push_reserved(LiveResults::new(alloc, bound)?);
+            results.push(LiveResults::new(alloc, bound)?)?;
         }
         let mut seats = Vec::with_capacity(alloc, rings)?;
         for _ in 0..rings {
-            seats.push_reserved(LiveSeat {
+            seats.push(LiveSeat {
                 made: AtomicU64::new(0),
                 refused: AtomicU64::new(0),
-            });
+            })?;
         }
         Ok(LiveWorker {
             contexts: AtomicU64::new(0),
@@ -162,7 +162,7 @@ impl LiveCounts {
     ) -> Result<LiveCounts, AllocError> {
         let mut all = Vec::with_capacity(alloc, workers as usize)?;
         for _ in 0..workers {
-            all.push_reserved(LiveWorker::new(alloc, programs, rings, bound)?);
+            all.push(LiveWorker::new(alloc, programs, rings, bound)?)?;
         }
         Ok(LiveCounts {
             dropped: AtomicU64::new(0),
@@ -221,7 +221,7 @@ impl LiveCounts {
                     results.add_to(&mut total);
                 }
             }
-            all.push_reserved(total);
+            all.push(total)?;
         }
         Ok(all)
     }

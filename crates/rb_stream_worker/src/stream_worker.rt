@@ -53,7 +53,7 @@ impl<'w, R, K> StreamWorker<'w, R, K> {
         stock: &'w K,
         options: CountOptions<'w>,
     ) -> Result<StreamWorker<'w, R, K>, AllocError>
-        ensures new { IfOk result (IsNewWorker number rings.now programs.now full.now ctx_len options.bound) }
+        ensures new { IfOk result (IsNewWorker number rings.now programs.now full.now ctx_len options.entry.bound) }
     {
         let seats = Vec::with_capacity(alloc, rings.len())?;
         let counts = StreamCounts::new(alloc, programs.len(), options.bound)?;

@@ -14,7 +14,7 @@ ghost use Rattle.rb_waiting.specs.Plans.{IsPlan};
 use rb_dealing::Late;
 use rb_source::Source;
 use rb_stream::{StreamFault, StreamReport, StreamStop, run_stream_as};
-use rb_stream_worker::{Turns, WhenFull};
+use rb_stream_worker::{CountOptions, Turns, WhenFull};
 use rb_verifier::Verified;
 use rb_workers::{Opened, Sink};
 use std::alloc::Global;
@@ -41,26 +41,26 @@ pub fn run_waiting_stream<R: Threads + Wait + Sync, I: Source + Send, S: Sink + 
     programs: &[Verified],
     source: &mut I,
     late: Late,
-    bound: u32,
+    options: CountOptions<'_>,
     turns: Turns,
 ) -> Result<StreamReport<S>, StreamStop<S>>
     requires opened { AreOpened S.position_of opened.items }
     requires planned { IsPlan opened.items programs.now turns }
     ensures none_refused { IfOk result (λ r. All (All HasNotAsked) (seat_rows opened.items) → All StaysLow r.rings.items → All RefusesNoRecord r.rings.items) }
-    ensures fails_unlogged { IfOk result (λ r. All (All HasNotAsked) (seat_rows opened.items) → All StaysLow r.rings.items → FailsUnlogged (WhenFull.Wait turns) S.position_of S.takes I.gives opened.items programs.now bound source.old source.new r) }
+    ensures fails_unlogged { IfOk result (λ r. All (All HasNotAsked) (seat_rows opened.items) → All StaysLow r.rings.items → FailsUnlogged (WhenFull.Wait turns) S.position_of S.takes I.gives opened.items programs.now options.entry.bound source.old source.new r) }
     ensures unknown_ring { StopsFor StreamFault.UnknownRing result ↔ (has_unknown_ring (vec_len opened) programs.now ≡ true) }
     ensures context_length { StopsFor StreamFault.ContextLength result ↔ ((has_unknown_ring (vec_len opened) programs.now ≡ false) × (has_other_length (I.ctx_len_of source.old) programs.now ≡ true)) }
     ensures no_worker { StopsFor StreamFault.NoWorker result ↔ ((has_unknown_ring (vec_len opened) programs.now ≡ false) × (has_other_length (I.ctx_len_of source.old) programs.now ≡ false) × (workers_of opened.items ≡ 0)) }
     ensures nothing_read { IfErr result (λ stop. stop.fault ≢ StreamFault.Memory → (stop.opened ≡ opened) × (source.new ≡ source.old)) }
     ensures stopped { IfErr result (IsStoppedAs (WhenFull.Wait turns) S.position_of S.takes I.gives opened.items programs.now source.old source.new) }
-    ensures streamed { IfOk result (IsStreamedAs (WhenFull.Wait turns) S.position_of S.takes I.gives opened.items programs.now bound source.old source.new) }
+    ensures streamed { IfOk result (IsStreamedAs (WhenFull.Wait turns) S.position_of S.takes I.gives opened.items programs.now options.entry.bound source.old source.new) }
     ensures end { IfOk result (λ r. EndsSource I.is_over I.fails source.new r.end) }
     ensures no_strays { IfOk result (λ r. r.strays ≡ 0) }
     ensures nothing_left { IfOk result (λ r. All LeavesNothing r.rings.items) }
     ensures settled { IfOk result (λ r. EachSettled (workers_of opened.items) (seat_rows opened.items) → All EndsSettled r.rings.items) }
 {
     let full = WhenFull::Wait(turns);
-    match run_stream_as(rt, alloc, opened, programs, source, late, bound, &full) {
+    match run_stream_as(rt, alloc, opened, programs, source, late, options, &full) {
         Ok(report) => Ok(report),
         Err(stop) => Err(stop),
     }

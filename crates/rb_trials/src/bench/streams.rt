@@ -6,6 +6,7 @@ use super::jobs::opened;
 use super::repeated::RepeatedContext;
 use crate::fault::TrialFault;
 use rb_stream::{Late, StreamReport, run_stream};
+use rb_stream_worker::{CountOptions, LiveCounts};
 use rb_verifier::Verified;
 use rb_waiting::{plan_turns, run_waiting_stream};
 use rb_workers::{NullSink, Opened};
@@ -36,9 +37,18 @@ pub(crate) fn stream_all<R: Threads + Wait + Sync>(
 ) -> Result<u64, TrialFault>
     requires { AreOpened (λ s. s.position) rings.items }
 {
+    let workers = match rings.first() {
+        Some(one) => u32::try_from(one.seats.len()).unwrap_or(0),
+        None => 0,
+    };
+    let live = LiveCounts::new(alloc, workers, programs.len(), rings.len(), RESULTS)?;
+    let options = CountOptions {
+        bound: RESULTS,
+        live: &live,
+    };
     let report = match start {
-        Start::AtOnce => stream_at_once(rt, alloc, rings, programs, source)?,
-        Start::WithRoom => stream_with_room(rt, alloc, rings, programs, source)?,
+        Start::AtOnce => stream_at_once(rt, alloc, rings, programs, source, options)?,
+        Start::WithRoom => stream_with_room(rt, alloc, rings, programs, source, options)?,
     };
     Ok(without_record(&report))
 }
@@ -49,10 +59,11 @@ fn stream_at_once<R: Threads + Wait + Sync>(
     rings: Vec<Opened<NullSink>>,
     programs: &[Verified],
     source: &mut RepeatedContext,
+    options: CountOptions<'_>,
 ) -> Result<StreamReport<NullSink>, TrialFault>
     requires { AreOpened (λ s. s.position) rings.items }
 {
-    match run_stream(rt, alloc, rings, programs, source, Late::Block, RESULTS) {
+    match run_stream(rt, alloc, rings, programs, source, Late::Block, options) {
         Ok(report) => Ok(report),
         Err(_) => Err(TrialFault::Memory),
     }
@@ -64,6 +75,7 @@ fn stream_with_room<R: Threads + Wait + Sync>(
     rings: Vec<Opened<NullSink>>,
     programs: &[Verified],
     source: &mut RepeatedContext,
+    options: CountOptions<'_>,
 ) -> Result<StreamReport<NullSink>, TrialFault>
     requires { AreOpened (λ s. s.position) rings.items }
 {
@@ -77,7 +89,7 @@ fn stream_with_room<R: Threads + Wait + Sync>(
         programs,
         source,
         Late::Block,
-        RESULTS,
+        options,
         turns,
     ) {
         Ok(report) => Ok(report),

@@ -14,7 +14,7 @@ loop-at-preserved g c =
     let e = c.in_ok-add_lane.ensures.added in
     let w = c.in_ok-worker.worker in
     let xs = map own c.loop-at.lanes.items in
-    let is = λ (k : ℕ) (x : StreamWorker g.row.R.Denot g.row.K.Denot). IsNewWorker k c.args.rings.now c.args.programs.now c.args.full.now c.args.ctx_len c.args.bound x in
+    let is = λ (k : ℕ) (x : StreamWorker g.row.R.Denot g.row.K.Denot). IsNewWorker k c.args.rings.now c.args.programs.now c.args.full.now c.args.ctx_len c.args.options.bound x in
     let number : (get_or c.args.workers.now at c.index-workers-at.result).number ≡ at = c.requires.numbered at c.index-workers-at.result (omega (arith, c.loop-at-test.true)) in
     let long = ap length e in
     let more = length-append xs (w ∷ []) in (
@@ -36,6 +36,6 @@ returns g c =
         as_many = len;
         pairs = i.0;
         empty = i.1;
-        new = λ k d below. subst (IsNewWorker k c.args.rings.now c.args.programs.now c.args.full.now c.args.ctx_len c.args.bound) (get_or-map own lanes k d d.worker (omega (arith, below, len))) (i.3 k d.worker (omega (arith, below, many)));
+        new = λ k d below. subst (IsNewWorker k c.args.rings.now c.args.programs.now c.args.full.now c.args.ctx_len c.args.options.bound) (get_or-map own lanes k d d.worker (omega (arith, below, len))) (i.3 k d.worker (omega (arith, below, many)));
       };
     }

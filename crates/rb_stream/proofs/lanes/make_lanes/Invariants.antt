@@ -7,4 +7,4 @@ abbrev pub invariant-loop-at : goal.invariant-loop-at
 invariant-loop-at g l =
     AreFeedsOf l.feeds.items l.lanes.items × AreEmptyQueues l.feeds.items l.lanes.items
     × (length (map (λ lane. lane.worker) l.lanes.items) ≡ l.at)
-    × ((k : ℕ) (d : _) → k < l.at → IsNewWorker k l.rings l.programs l.full l.ctx_len l.bound (slice_index_or (map (λ lane. lane.worker) l.lanes.items) k d))
+    × ((k : ℕ) (d : _) → k < l.at → IsNewWorker k l.rings l.programs l.full l.ctx_len l.options.bound (slice_index_or (map (λ lane. lane.worker) l.lanes.items) k d))

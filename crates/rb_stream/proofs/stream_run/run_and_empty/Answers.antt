@@ -36,7 +36,7 @@ returns-clause-ran g c =
     let long : length news ≡ back.len = len ∙ (ap length c.as_mut_slice.ensures.value ∙ sym back.ok.0) in
     let all = rests_of g.S.Sink.position_of g.S.Sink.takes olds news (zip_of (TakesRest g.S.Sink.position_of g.S.Sink.takes) olds news (sym len) c.take_rests.ensures.each) in
     let rows : seat_rows back.items ≡ seat_rows news = sym (all.2 ∙ ap (λ (l : List (Opened g.row.S.Denot)). seat_rows l) c.as_mut_slice.ensures.value) in
-    let Ran = λ (r : List (List WorkerSeat)). StreamRan g.I.Source.gives (workers_of c.args.opened.items) c.args.programs.now c.args.full.now c.args.bound c.args.source.now c.run_in-merged.new.source (λ k. worker_column k (seat_rows c.args.opened.items)) (λ k. worker_column k r) c.run_in-merged.new.dealt c.run_in-merged.new.total in
+    let Ran = λ (r : List (List WorkerSeat)). StreamRan g.I.Source.gives (workers_of c.args.opened.items) c.args.programs.now c.args.full.now c.args.options.bound c.args.source.now c.run_in-merged.new.source (λ k. worker_column k (seat_rows c.args.opened.items)) (λ k. worker_column k r) c.run_in-merged.new.dealt c.run_in-merged.new.total in
     subst (λ (l : List (Opened g.row.S.Denot)). Ran (seat_rows l)) (sym (lent_whole back.len news back.items long)) (subst Ran rows c.run_in-merged.ensures.ran)
 
 pub returns-clause-returned : goal.returns-clause-returned

@@ -81,7 +81,7 @@ returns-clause-ran g c =
     let opened = c.args.opened.items in
     let back = c.merge.result.items in
     let same : length c.split.new.workers ≡ workers_of opened = c.split.auto.workers ∙ c.requires.count in
-    stream_at g.I.Source.gives (length c.split.new.workers) (workers_of opened) c.args.programs.now c.args.full.now c.args.bound c.args.source.now c.run_split.new.source _ _ (columns opened) (columns back) c.run_split.new.dealt c.run_split.new.total same
+    stream_at g.I.Source.gives (length c.split.new.workers) (workers_of opened) c.args.programs.now c.args.full.now c.args.options.bound c.args.source.now c.run_split.new.source _ _ (columns opened) (columns back) c.run_split.new.dealt c.run_split.new.total same
     (λ k below.
     let here : k < length c.args.workers.now = omega (arith, below, c.requires.count) in
     let d = element_of c.split.new.workers k (omega (arith, below, same)) in
@@ -97,7 +97,7 @@ returns-clause-returned g c =
     let pos = g.S.Sink.position_of in
     let opened = c.args.opened.items in
     let back = c.merge.result.items in
-    returned_of pos g.S.Sink.takes g.I.Source.gives opened back c.args.programs.now c.args.full.now c.args.bound c.args.source.now c.run_split.new.source c.run_split.new.dealt c.run_split.new.total
+    returned_of pos g.S.Sink.takes g.I.Source.gives opened back c.args.programs.now c.args.full.now c.args.options.bound c.args.source.now c.run_split.new.source c.run_split.new.dealt c.run_split.new.total
     (subst (λ n. All (IsOpened pos n) opened) c.requires.count c.requires.opened) (c.merge.ensures.rings ∙ c.split.ensures.rings) (returns-clause-consumed g c)
     (λ k d below. c.merge.ensures.seats k d below ∙ (c.run_split.auto.workers ∙ (c.split.auto.workers ∙ c.requires.count)))
     (returns-clause-ran g c)

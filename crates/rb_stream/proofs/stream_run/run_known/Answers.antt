@@ -39,7 +39,7 @@ close_all-rings-requires-clause-tallies g c =
 pub returns-clause-streamed : goal.returns-clause-streamed
 returns-clause-streamed g c =
     let run = c.run_and_empty-merged in
-    streamed_of g.S.Sink.position_of g.S.Sink.takes g.I.Source.gives c.args.opened.items run.result.items c.args.programs.now c.args.full.now c.args.bound c.args.source.now run.new.source run.new.dealt run.new.total _
+    streamed_of g.S.Sink.position_of g.S.Sink.takes g.I.Source.gives c.args.opened.items run.result.items c.args.programs.now c.args.full.now c.args.options.bound c.args.source.now run.new.source run.new.dealt run.new.total _
     c.requires.opened run.ensures.returned run.ensures.ran c.in-Some.ensures.not_stopped c.close_all-rings.ensures.closes refl refl refl refl refl
 
 pub returns-clause-end : goal.returns-clause-end

@@ -17,7 +17,7 @@ use Rattle.rb_stream.proofs.stream_run.run_split.Goals as goal
 
 pub returns-in_default-clause-ran : goal.returns-in_default-clause-ran
 returns-in_default-clause-ran g c =
-    nothing_ran g.I.Source.gives (length c.args.workers.now) c.args.programs.now c.args.full.now c.args.bound c.args.source.now _ c.args.dealt.now c.args.total.now (c.gives_nothing.ensures.law c.args.source.now) c.requires.dealt.0 c.requires.dealt.1 c.requires.total
+    nothing_ran g.I.Source.gives (length c.args.workers.now) c.args.programs.now c.args.full.now c.args.options.bound c.args.source.now _ c.args.dealt.now c.args.total.now (c.gives_nothing.ensures.law c.args.source.now) c.requires.dealt.0 c.requires.dealt.1 c.requires.total
 
 pub returns-in_default-clause-consumers : goal.returns-in_default-clause-consumers
 returns-in_default-clause-consumers g c = took_nothing g.S.Sink.position_of g.S.Sink.takes c.args.rings.now c.args.consumers.now c.requires.consumers
@@ -32,7 +32,7 @@ run_threads-requires-clause-ready g c κs within =
     let now : c.as_mut_slice-3.result.now ≡ os = c.as_mut_slice-3.ensures.value ∙ lent_whole lanes.len os lanes.items (many ∙ sym lanes.ok.0) in
     let swapped = subst (λ (l : List L). SwapsSeats c.args.workers.now c.swap_seats.new.workers l os) c.as_mut_slice.ensures.value c.swap_seats.ensures.swapped in
     subst (λ (l : List L). All (λ lane. IsReadyWorker lane.worker) l) (sym now)
-    (ready_at c.args.rings.now c.args.programs.now c.args.full.now c.args.ctx_len c.args.bound _ c.args.workers.now c.swap_seats.new.workers os made many swapped c.requires.seats c.requires.fit c.requires.limits)
+    (ready_at c.args.rings.now c.args.programs.now c.args.full.now c.args.ctx_len c.args.options.bound _ c.args.workers.now c.swap_seats.new.workers os made many swapped c.requires.seats c.requires.fit c.requires.limits)
 
 pub run_threads-requires-clause-pairs : goal.run_threads-requires-clause-pairs
 run_threads-requires-clause-pairs g c κs within =
@@ -45,7 +45,7 @@ run_threads-requires-clause-pairs g c κs within =
     let swapped = subst (λ (l : List L). SwapsSeats c.args.workers.now c.swap_seats.new.workers l os) c.as_mut_slice.ensures.value c.swap_seats.ensures.swapped in
     subst (λ (l : List L). AreFeedsOf c.as_mut_slice-2.result.now l) (sym now)
     (subst (λ (l : List LaneFeed). AreFeedsOf l os) (sym c.as_mut_slice-2.ensures.value)
-    (pairs_at c.args.rings.now c.args.programs.now c.args.full.now c.args.ctx_len c.args.bound _ c.args.workers.now c.swap_seats.new.workers os made many swapped))
+    (pairs_at c.args.rings.now c.args.programs.now c.args.full.now c.args.ctx_len c.args.options.bound _ c.args.workers.now c.swap_seats.new.workers os made many swapped))
 
 pub run_threads-requires-clause-empty : goal.run_threads-requires-clause-empty
 run_threads-requires-clause-empty g c κs within =
@@ -58,7 +58,7 @@ run_threads-requires-clause-empty g c κs within =
     let swapped = subst (λ (l : List L). SwapsSeats c.args.workers.now c.swap_seats.new.workers l os) c.as_mut_slice.ensures.value c.swap_seats.ensures.swapped in
     subst (λ (l : List L). AreEmptyQueues c.as_mut_slice-2.result.now l) (sym now)
     (subst (λ (l : List LaneFeed). AreEmptyQueues l os) (sym c.as_mut_slice-2.ensures.value)
-    (empty_at c.args.rings.now c.args.programs.now c.args.full.now c.args.ctx_len c.args.bound _ c.args.workers.now c.swap_seats.new.workers os made many swapped))
+    (empty_at c.args.rings.now c.args.programs.now c.args.full.now c.args.ctx_len c.args.options.bound _ c.args.workers.now c.swap_seats.new.workers os made many swapped))
 
 pub add_up-requires : goal.add_up-requires
 add_up-requires g c =
@@ -79,7 +79,7 @@ add_up-requires g c =
     let all : c.as_slice.result.now ≡ ends = c.as_slice.ensures.value ∙ lent_whole lanes.len ends _ (ended ∙ (later ∙ sym lanes.ok.0)) in
     record {
       tables = subst (λ (l : List L). All (λ lane. SameTables lane.worker.counts c.args.total.now) l) (sym all)
-          (split_tables g.I.Source.gives c.args.rings.now c.args.programs.now c.args.full.now c.args.ctx_len c.args.bound c.args.source.now c.run_threads.new.source _ c.args.workers.now c.swap_seats.new.workers c.swap_seats-2.new.workers os ls ends c.run_threads.new.dealt made many swapped stream c.swap_seats.auto.workers c.swap_seats-2.auto.workers ended again c.args.total.now c.requires.total);
+          (split_tables g.I.Source.gives c.args.rings.now c.args.programs.now c.args.full.now c.args.ctx_len c.args.options.bound c.args.source.now c.run_threads.new.source _ c.args.workers.now c.swap_seats.new.workers c.swap_seats-2.new.workers os ls ends c.run_threads.new.dealt made many swapped stream c.swap_seats.auto.workers c.swap_seats-2.auto.workers ended again c.args.total.now c.requires.total);
     }
 
 pub returns-clause-ran : goal.returns-clause-ran
@@ -99,7 +99,7 @@ returns-clause-ran g c =
     let stream = subst (λ (l : List L). RunsStream g.I.Source.gives IsReadyWorker WorkerRuns c.args.source.now c.run_threads.new.source l ls c.run_threads.new.dealt) now c.run_threads.ensures.stream in
     let again = subst (λ (l : List L). SwapsSeats c.swap_seats.new.workers c.swap_seats-2.new.workers l ends) after c.swap_seats-2.ensures.swapped in
     let all : c.as_slice.result.now ≡ ends = c.as_slice.ensures.value ∙ lent_whole lanes.len ends _ (ended ∙ (later ∙ sym lanes.ok.0)) in
-    split_ran g.I.Source.gives c.args.rings.now c.args.programs.now c.args.full.now c.args.ctx_len c.args.bound c.args.source.now c.run_threads.new.source _ c.args.workers.now c.swap_seats.new.workers c.swap_seats-2.new.workers os ls ends c.run_threads.new.dealt made many swapped stream c.swap_seats.auto.workers c.swap_seats-2.auto.workers ended again c.args.total.now c.add_up.new.total c.requires.total
+    split_ran g.I.Source.gives c.args.rings.now c.args.programs.now c.args.full.now c.args.ctx_len c.args.options.bound c.args.source.now c.run_threads.new.source _ c.args.workers.now c.swap_seats.new.workers c.swap_seats-2.new.workers os ls ends c.run_threads.new.dealt made many swapped stream c.swap_seats.auto.workers c.swap_seats-2.auto.workers ended again c.args.total.now c.add_up.new.total c.requires.total
     (subst (λ (l : List L). AddsCounts (counts_in l) c.args.total.now c.add_up.new.total) all c.add_up.ensures.added)
 
 pub returns-clause-seats : goal.returns-clause-seats
@@ -118,4 +118,4 @@ returns-clause-seats g c =
     let ended : length ends ≡ length ls = c.swap_seats-2.auto.lanes ∙ ap length after in
     let stream = subst (λ (l : List L). RunsStream g.I.Source.gives IsReadyWorker WorkerRuns c.args.source.now c.run_threads.new.source l ls c.run_threads.new.dealt) now c.run_threads.ensures.stream in
     let again = subst (λ (l : List L). SwapsSeats c.swap_seats.new.workers c.swap_seats-2.new.workers l ends) after c.swap_seats-2.ensures.swapped in
-    split_seats g.I.Source.gives c.args.rings.now c.args.programs.now c.args.full.now c.args.ctx_len c.args.bound c.args.source.now c.run_threads.new.source _ c.args.workers.now c.swap_seats.new.workers c.swap_seats-2.new.workers os ls ends c.run_threads.new.dealt made many swapped stream c.swap_seats.auto.workers c.swap_seats-2.auto.workers ended again
+    split_seats g.I.Source.gives c.args.rings.now c.args.programs.now c.args.full.now c.args.ctx_len c.args.options.bound c.args.source.now c.run_threads.new.source _ c.args.workers.now c.swap_seats.new.workers c.swap_seats-2.new.workers os ls ends c.run_threads.new.dealt made many swapped stream c.swap_seats.auto.workers c.swap_seats-2.auto.workers ended again

@@ -8,6 +8,7 @@ use std::alloc::Global;
 use std::fmt::Debug;
 use std::process::Abort;
 use std::sync::Wait;
+use std::sync::atomic::{AtomicU64, Ordering};
 use std::thread;
 use std::thread::Threads;
 
@@ -87,6 +88,8 @@ fn contexts<A: Abort>(rt: &A, alloc: Global, count: u32) -> Vec<Vec<u8>>
 #[derive(Clone, Copy, Debug, PartialEq, Eq)]
 struct Came {
     dealt: Dealt,
+    // How many dropped contexts were reported to other threads.
+    live_dropped: u64,
     contexts: u64,
     sum: u64,
     wrong: u64,
@@ -117,16 +120,19 @@ fn deal_to<R: Threads + Wait + Sync + Abort>(
         };
         add_lane(alloc, adder, &mut feeds, &mut lanes).expect(rt, "memory");
     }
+    let dropped = AtomicU64::new(0);
     let dealt = run_lanes(
         rt,
         alloc,
         &mut source,
         late,
+        &dropped,
         feeds.as_mut_slice(),
         lanes.as_mut_slice(),
     );
     let mut came = Came {
         dealt,
+        live_dropped: dropped.load(Ordering::SeqCst),
         contexts: 0,
         sum: 0,
         wrong: 0,
@@ -189,7 +195,12 @@ fn without_workers_every_context_is_dropped(rt: HostRuntime) {
     let came = deal_to(&rt, rt.alloc(), 1_000, &[], u64::MAX, Late::Drop);
     same(
         &rt,
-        &(came.dealt.contexts, came.dealt.dropped, came.dealt.end),
-        &(1_000, 1_000, DealEnd::Over),
+        &(
+            came.dealt.contexts,
+            came.dealt.dropped,
+            came.live_dropped,
+            came.dealt.end,
+        ),
+        &(1_000, 1_000, 1_000, DealEnd::Over),
     );
 }

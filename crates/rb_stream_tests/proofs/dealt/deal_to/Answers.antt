@@ -2,8 +2,8 @@ use Rattle.std.proofs.Common.{List, sym, subst}
 use Rattle.rb_dealing.specs.Queues.{AreEmptyQueues}
 use Rattle.rb_dealing.specs.declared.lane.LaneFeed.{LaneFeed}
 use Rattle.rb_dealing.specs.declared.lane.Lane.{Lane}
-use Rattle.rb_dealing_tests.specs.declared.dealt.Adder.{Adder}
-use Rattle.rb_dealing_tests.proofs.dealt.deal_to.Goals as goal
+use Rattle.rb_stream_tests.specs.declared.dealt.Adder.{Adder}
+use Rattle.rb_stream_tests.proofs.dealt.deal_to.Goals as goal
 
 pub run_lanes-dealt-requires-clause-empty : goal.run_lanes-dealt-requires-clause-empty
 run_lanes-dealt-requires-clause-empty g c κs within =
