@@ -1,18 +1,23 @@
 -- What an output of lines wrote for its records.
-use Rattle.std.proofs.Common.{◌≡◌, ℕ, ◌+◌, ◌<◌, ◌≤◌, Bool, true, false, List, [], ◌∷◌, ◌++◌, length, take, drop, Option, refl, sym, ap, ◌∙◌, subst, arith, append_assoc, append-nil}
+use Rattle.std.proofs.Common.{◌≡◌, ℕ, ◌+◌, ◌<◌, ◌≤◌, Bool, true, false, List, [], ◌∷◌, ◌++◌, length, take, drop, Option, refl, sym, ap, ◌∙◌, subst, arith, append_assoc, append-nil, take-append-drop}
 use Rattle.std.specs.Prelude.{◌≢◌, Result, Ok, Err, OnErr, OnOk, is_err}
 use Rattle.std.proofs.lemmas.Bool.{true≢false}
 use Rattle.std.proofs.lemmas.Grind.{flat_map-append}
+use Rattle.std.proofs.lemmas.List.{length-drop}
 use Rattle.std.specs.Io.KnownBytes.{Appends, Keeps}
 use Rattle.std.proofs.KnownBytes.{Appends-nil, Appends-trans, Appends-kept}
 use Rattle.rb_history.specs.TapeBytes.{Item}
+use Rattle.rb_io.specs.declared.device.DeviceFault.{DeviceFault}
 use Rattle.rb_json.specs.declared.form.LineForm.TheVariants.{Json}
 use Rattle.rb_tape_commands.specs.TapeText.{tape_line_as, tape_lines, tape_object}
+use Rattle.rb_tape.specs.Items.{item_of, item_taken}
+use Rattle.rb_tape.specs.declared.item.Item.{Item as Lent}
 use Rattle.rb_workers.specs.Sink.{SinkItem, TakesAll}
+use Rattle.rb_workers.specs.Sink.SinkItem.{Record}
 use Rattle.rb_run_commands.specs.TapedRun.{sink_tape_items}
-use Rattle.rb_outputs.specs.Lines.{SinkLines, WritesLines}
+use Rattle.rb_run_commands.proofs.TapeGiven.{first_of, lent_is}
+use Rattle.rb_outputs.specs.Lines.{SinkLines, WritesLines, lines_take}
 use Rattle.rb_outputs.specs.inner.LineWriting.{WritesLine}
-use Rattle.rb_outputs.proofs.Segmented.{first_of}
 
 front_empty : (xs ys : List ℕ) → xs ++ ys ≡ [] → xs ≡ []
 front_empty [] ys e = refl
@@ -24,14 +29,28 @@ lines_append is js = flat_map-append (tape_line_as Json) is js
 one_line : (item : Item) → tape_lines Json (item ∷ []) ≡ tape_object item
 one_line item = append-nil (tape_object item)
 
+-- a write failed before the end of a line
+pub cut_line : (before after : Option (List ℕ)) (line : List ℕ) (sent : ℕ) (fault : DeviceFault) → Appends before after (take sent line) → sent < length line → WritesLine before after line (Err fault)
+cut_line before after line sent fault wrote short = record {
+  out = take sent line;
+  missing = drop sent line;
+  wrote = wrote;
+  beginning = take-append-drop sent line;
+  all_out = tt;
+  not_all_out = λ none. absurd (let n = length-drop sent line in let z = ap length none in omega (arith, n, z, short));
+}
+
+abbrev Answer : Type 0
+Answer = Result (Unit {0}) DeviceFault
+
 -- lines, from their fields
-abbrev pub sink_lines : {W : Type 0} → W → ℕ → Bool → Bool → SinkLines W
+abbrev sink_lines : {W : Type 0} → W → ℕ → Bool → Bool → SinkLines W
 sink_lines writer position failed stalled = record { writer = writer; position = position; failed = failed; stalled = stalled }
 
 module _ {W : Type 0} (contents : W → Option (List ℕ)) where
   -- ---- one item
 
-  pub nothing_yet : (sink : SinkLines W) → WritesLines contents sink [] sink
+  nothing_yet : (sink : SinkLines W) → WritesLines contents sink [] sink
   nothing_yet sink = record {
     out = [];
     missing = [];
@@ -56,7 +75,7 @@ module _ {W : Type 0} (contents : W → Option (List ℕ)) where
 
   module _ (writer : W) (before after : ℕ) (stalled : Bool) (item : Item) where
     -- the lines had ended
-    pub gives_up : (ended : Bool) → ended ≡ true → WritesLines contents (sink_lines writer before ended stalled) (item ∷ []) (sink_lines writer after ended stalled)
+    gives_up : (ended : Bool) → ended ≡ true → WritesLines contents (sink_lines writer before ended stalled) (item ∷ []) (sink_lines writer after ended stalled)
     gives_up ended is = record {
       out = [];
       missing = [];
@@ -68,9 +87,9 @@ module _ {W : Type 0} (contents : W → Option (List ℕ)) where
     }
 
     -- the record's line is written, or some of it
-    pub writes_line : {A E : Type 0} (later : W) (ended failed : Bool) (answer : Result A E) → ended ≡ false → failed ≡ is_err answer
+    writes_line : (later : W) (ended failed : Bool) (answer : Answer) → ended ≡ false → failed ≡ is_err answer
         → WritesLine (contents writer) (contents later) (tape_object item) answer → WritesLines contents (sink_lines writer before ended stalled) (item ∷ []) (sink_lines later after failed stalled)
-    writes_line {A} {E} later ended failed answer sound is line = record {
+    writes_line later ended failed answer sound is line = record {
       out = line.out;
       missing = line.missing;
       wrote = line.wrote;
@@ -80,13 +99,29 @@ module _ {W : Type 0} (contents : W → Option (List ℕ)) where
       not_all_out = λ _ broken. at_error answer is line.not_all_out broken;
     }
       where
-        at_ok : (r : Result A E) → failed ≡ is_err r → OnOk r (line.missing ≡ []) → failed ≡ false → line.missing ≡ []
+        at_ok : (r : Answer) → failed ≡ is_err r → OnOk r (line.missing ≡ []) → failed ≡ false → line.missing ≡ []
         at_ok (Ok _) f all whole = all
         at_ok (Err _) f all whole = absurd (true≢false (sym f ∙ whole))
 
-        at_error : (r : Result A E) → failed ≡ is_err r → OnErr r (line.missing ≢ []) → failed ≡ true → line.missing ≢ []
+        at_error : (r : Answer) → failed ≡ is_err r → OnErr r (line.missing ≢ []) → failed ≡ true → line.missing ≢ []
         at_error (Ok _) f part broken = absurd (true≢false (sym broken ∙ f))
         at_error (Err _) f part broken = part
+
+  -- ---- one record that a sink was given
+
+  took : (writes_out : W → Bool → W → Type 0) (item : Lent) (before old new : SinkLines W) → before ≡ old → WritesLines contents before (item_of item ∷ []) new → lines_take contents writes_out old (Record (item_taken item)) new
+  took writes_out item before old new is wrote = (subst (λ items. WritesLines contents old items new) (sym (lent_is item)) (subst (λ s. WritesLines contents s (item_of item ∷ []) new) is wrote), tt)
+
+  -- the lines had ended
+  pub took_nothing : (writes_out : W → Bool → W → Type 0) (old : SinkLines W) (item : Lent) (writer : W) (before after : ℕ) (ended stalled : Bool) → sink_lines writer before ended stalled ≡ old → ended ≡ true
+      → lines_take contents writes_out old (Record (item_taken item)) (sink_lines writer after ended stalled)
+  took_nothing writes_out old item writer before after ended stalled view is = took writes_out item _ old _ view (gives_up writer before after stalled (item_of item) ended is)
+
+  -- the record's line was written, or some of it
+  pub took_line : (writes_out : W → Bool → W → Type 0) (old : SinkLines W) (item : Lent) (writer later : W) (before after : ℕ) (ended failed stalled : Bool) (answer : Answer) → sink_lines writer before ended stalled ≡ old → ended ≡ false
+      → failed ≡ is_err answer → WritesLine (contents writer) (contents later) (tape_object (item_of item)) answer → lines_take contents writes_out old (Record (item_taken item)) (sink_lines later after failed stalled)
+  took_line writes_out old item writer later before after ended failed stalled answer view sound is line =
+      took writes_out item _ old _ view (writes_line writer before after stalled (item_of item) later ended failed answer sound is line)
 
   -- ---- items in sequence
 

@@ -71,7 +71,7 @@ impl<W: Drop> LineSink<W> {
 
     /// Returns the writer, with what was written to it.
     pub fn into_writer(self) -> W
-        ensures value { result ≡ self.entry.writer }
+        ensures value { result ≡ self.writer }
     {
         self.writer
     }
@@ -130,7 +130,14 @@ fn write_line<W: Write>(
     let Ok(line) = record_object(alloc, &record_of(item)) else {
         return Err(DeviceFault);
     };
-    if write_out(writer, line.as_slice()) < line.len() {
+    write_piece(writer, line.as_slice())
+}
+
+// Writes a piece, or a part of it before a write that fails.
+fn write_piece<W: Write>(writer: &mut W, piece: &[u8]) -> Result<(), DeviceFault>
+    ensures piece { WritesLine (W.contents writer.old) (W.contents writer.new) piece.now result }
+{
+    if write_out(writer, piece) < piece.len() {
         return Err(DeviceFault);
     }
     Ok(())
