@@ -38,7 +38,8 @@ use std::time::Clock;
 ///
 /// - 0 for success.
 /// - 1 if the command was refused, with a line on `err` that begins with `refused `. With `--why`, that line follows
-///   one with the reason. With `--json`, the refusal is also an object on `out`, except for `feed`.
+///   one with the reason. With `--json`, the refusal is also an object on `out`, except for `feed`, `stream`
+///   and `follow`.
 /// - 2 for wrong usage, which is printed to `err` before anything is read or written.
 ///
 /// Help and the version go to `out` if they are requested. A command with a FILE reads it instead of `input`.

@@ -4,7 +4,7 @@ use crate::bounds::SIZES;
 use crate::request::{Values, byte_count, large_count};
 use clap::Error;
 use rb_segments::SegmentPlan;
-use rb_service::{Full, MetricsFile, NamedRing, SegmentFolder, StreamOptions};
+use rb_service::{Full, MetricsFile, NamedRing, RecordForm, SegmentFolder, StreamOptions};
 use rb_source::{Fit, Form, Framing};
 use rb_stream::Late;
 use std::alloc::AllocError;
@@ -38,6 +38,7 @@ impl<'a> Values<'_, 'a> {
             workers: values.workers,
             framing: values.framing,
             form: values.form,
+            records: self.records(),
             folder,
             metrics,
             from: self.options.get_str("from"),
@@ -77,7 +78,8 @@ impl<'a> Values<'_, 'a> {
         Ok(rings)
     }
 
-    // Sets the outputs of rings, and returns the directory of segments.
+    // Sets the outputs of rings, and returns the directory of segments. Refuses a directory if records are written as
+    // lines.
     fn outputs(
         &self,
         rings: &mut [NamedRing<'a>],
@@ -86,8 +88,13 @@ impl<'a> Values<'_, 'a> {
         let Some(texts) = self.options.get_strs("out") else {
             return Ok(None);
         };
-        let path = self.add_outputs(rings, texts)?;
-        Ok(path.map(|path| SegmentFolder { path, plan }))
+        match self.add_outputs(rings, texts)? {
+            None => Ok(None),
+            Some(path) if self.records() == RecordForm::Lines => {
+                Err(self.wrong("out", path, "NAME=FILE, which --json needs: segments are tapes"))
+            }
+            Some(path) => Ok(Some(SegmentFolder { path, plan })),
+        }
     }
 
     // Returns when segments are closed and deleted.
@@ -191,6 +198,15 @@ impl<'a> Values<'_, 'a> {
             return Err(self.wrong("out", text, "a ring without an output, and a file"));
         }
         Ok(printed || path == "-")
+    }
+
+    // Returns how records are written to files.
+    fn records(&self) -> RecordForm {
+        if self.has("json") {
+            RecordForm::Lines
+        } else {
+            RecordForm::Tape
+        }
     }
 
     // Returns the form of contexts.

@@ -7,7 +7,7 @@ pub(crate) static STREAM_COMMANDS: [CommandRow; 2] = [STREAM, FOLLOW];
 
 const STREAM: CommandRow = CommandRow {
     name: "stream",
-    about: "Runs programs on contexts as they arrive, and writes the records of each ring as a tape",
+    about: "Runs programs on contexts as they arrive, and writes the records of each ring as a tape or as lines",
     example: "Example: tcpdump -U -w - | tools/pcap-frames | rbhost stream --ring packets:1M --program filter.hex --workers 4 --ctx 128 --in frames --fit cut --out packets=-",
     options: &[
         RING,
@@ -19,6 +19,7 @@ const STREAM: CommandRow = CommandRow {
         WITH_LENGTH,
         FROM,
         OUT,
+        JSON_LINES,
         SEGMENT,
         KEEP,
         METRICS,
@@ -81,6 +82,12 @@ const OUT: OptionRow = OptionRow {
     name: "out",
     shape: OptionShape::Values("DIR|NAME=FILE"),
     help: "A directory to which tapes are written in segments; or the file to which the tape of one ring is written, - for standard output. Other rings are consumed and counted",
+};
+
+const JSON_LINES: OptionRow = OptionRow {
+    name: "json",
+    shape: OptionShape::Flag,
+    help: "Write an object of JSON for each record, as tape --json prints it, in place of a tape; a directory has tapes, so it is refused",
 };
 
 const SEGMENT: OptionRow = OptionRow {

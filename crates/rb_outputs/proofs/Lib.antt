@@ -1,1 +1,3 @@
 pub mod Segmented
+pub mod LinesGiven
+pub mod LineOutputs

@@ -7,28 +7,13 @@ use Rattle.rb_segments.specs.Segments.{Segment}
 use Rattle.rb_segments.specs.SegmentTape.{HasWritten, SegmentTape, WritesRecord}
 use Rattle.rb_tape.specs.Items.{item_of, item_taken}
 use Rattle.rb_tape.specs.declared.item.Item.{Item as Lent}
-use Rattle.rb_tape.specs.declared.item.Item.TheVariants as kinds
 use Rattle.rb_workers.specs.Sink.{SinkItem, TakesAll}
-use Rattle.rb_workers.specs.Sink.SinkItem.{Record, Chapter, CaughtUp}
-use Rattle.rb_history.specs.declared.answers.Taken.TheVariants.{Event, Skipped, BusyFront, Empty}
+use Rattle.rb_workers.specs.Sink.SinkItem.{Record}
 use Rattle.rb_run_commands.specs.TapedRun.{sink_tape_items}
+use Rattle.rb_run_commands.proofs.TapeGiven.{first_of, lent_is}
 use Rattle.rb_outputs.specs.Outputs.{ContinuesWith, has_fault, output_takes}
 use Rattle.rb_outputs.specs.declared.outputs.RingOutput.{RingOutput}
 use Rattle.rb_outputs.specs.declared.outputs.RingOutput.TheVariants.{Stream, File, Segments, Nowhere}
-
--- a lent record, as a record of the tape
-lent_is : (item : Lent) → sink_tape_items (Record (item_taken item) ∷ []) ≡ item_of item ∷ []
-lent_is (kinds.Event e) = refl
-lent_is (kinds.Skip pos n) = refl
-
--- the records of the first item, and then those of the others
-first_of : (item : SinkItem) (items : List SinkItem) → sink_tape_items (item ∷ items) ≡ sink_tape_items (item ∷ []) ++ sink_tape_items items
-first_of (Record (Event p w k bytes)) items = refl
-first_of (Record (Skipped p n)) items = refl
-first_of (Record BusyFront) items = refl
-first_of (Record Empty) items = refl
-first_of (Chapter c) items = refl
-first_of CaughtUp items = refl
 
 -- an answer that keeps a fault has none only if there was none
 some_or_none : (fault : SegmentFault) → ◌≡◌ {A = Option SegmentFault} (Some fault) None → ⊥

@@ -1,22 +1,21 @@
 //! The outputs for the records of rings.
 
-ghost use Rattle.std.specs.Prelude.{◌≡◌, ◌≢◌, ℕ, false};
-ghost use Rattle.rb_outputs.specs.Outputs.{EndsAt, has_fault};
+ghost use Rattle.rb_outputs.specs.Outputs.{EndsSegments};
 
+use crate::stream_output::StreamOutput;
 use rb_chapter_ring::Chapter;
 use rb_io::Outgoing;
-use rb_run_commands::TapeSink;
 use rb_segments::{SegmentStore, SegmentWriter};
 use rb_tape::Item;
-use rb_workers::{NullSink, OpenGate, Sink};
+use rb_workers::{NullSink, Sink};
 
-/// The output for the records of a ring: a tape on one of two kinds of writers, a tape in segments, or none.
+/// The output for the records of a ring: a tape or lines on one of two kinds of writers, a tape in segments, or none.
 #[derive(Drop)]
 pub enum RingOutput<'w, A, B, S: SegmentStore<F>, F: Outgoing + Drop> {
-    /// A tape on a stream, such as standard output.
-    Stream(TapeSink<'w, A, OpenGate>),
-    /// A tape in a file.
-    File(TapeSink<'w, B, OpenGate>),
+    /// On a stream, such as standard output.
+    Stream(StreamOutput<'w, A>),
+    /// In a file.
+    File(StreamOutput<'w, B>),
     /// A tape in segments.
     Segments(SegmentWriter<S, F>),
     /// The records are counted and dropped.
@@ -59,16 +58,17 @@ impl<
     F: Outgoing + Drop,
 > RingOutput<'w, A, B, S, F> {
     ghost use Rattle.std.specs.Prelude.{◌≡◌, ◌≢◌, false};
-    ghost use Rattle.rb_outputs.specs.Outputs.{EndsAt, has_failed, output_position};
+    ghost use Rattle.rb_outputs.specs.Outputs.{EndsAt, has_failed, IsEndOf, output_position};
 
     /// Flushes the output, and returns whether all of it was written. A tape in segments ends in order.
     pub fn finish(self) -> OutputEnd
         ensures whole { result ≢ OutputEnd.Failed → has_failed self.entry ≡ false }
         ensures end { EndsAt (output_position self.entry) result }
+        ensures reported { IsEndOf A.writes_out B.writes_out self.entry result }
     {
         match self {
-            RingOutput::Stream(tape) => finish_tape(tape),
-            RingOutput::File(tape) => finish_tape(tape),
+            RingOutput::Stream(output) => output.finish(),
+            RingOutput::File(output) => output.finish(),
             RingOutput::Segments(tape) => finish_segments(tape),
             RingOutput::Nowhere(_) => OutputEnd::Whole,
         }
@@ -95,25 +95,12 @@ impl<'w, A: Outgoing, B: Outgoing, S: SegmentStore<F>, F: Outgoing + Drop> RingO
     }
 }
 
-// Flushes the tape, and returns whether all of it was written.
-fn finish_tape<W: Outgoing + Drop>(tape: TapeSink<'_, W, OpenGate>) -> OutputEnd
-    ensures whole { result ≢ OutputEnd.Failed → tape.entry.failed ≡ false }
-    ensures end { (position : ℕ) → EndsAt position result }
-{
-    let failed = tape.failed();
-    if tape.into_writer().write_out().is_err() || failed {
-        return OutputEnd::Failed;
-    }
-    OutputEnd::Whole
-}
-
 // Ends the tape in order, and returns where it ends if all of it was written.
 #[tactic(auto, using(crate::proofs::Segmented::no_fault))]
 fn finish_segments<S: SegmentStore<F> + Drop, F: Outgoing + Drop>(
     tape: SegmentWriter<S, F>,
 ) -> OutputEnd
-    ensures whole { result ≢ OutputEnd.Failed → has_fault tape.fault ≡ false }
-    ensures end { EndsAt tape.position result }
+    ensures ends { EndsSegments tape result }
 {
     let position = tape.position();
     match tape.finish() {
@@ -132,8 +119,8 @@ impl<'w, A: Outgoing, B: Outgoing, S: SegmentStore<F>, F: Outgoing + Drop> Sink
 
     fn position(&self) -> u64 {
         match self {
-            RingOutput::Stream(tape) => tape.position(),
-            RingOutput::File(tape) => tape.position(),
+            RingOutput::Stream(output) => output.position(),
+            RingOutput::File(output) => output.position(),
             RingOutput::Segments(tape) => tape.position(),
             RingOutput::Nowhere(sink) => sink.position(),
         }
@@ -141,8 +128,8 @@ impl<'w, A: Outgoing, B: Outgoing, S: SegmentStore<F>, F: Outgoing + Drop> Sink
 
     fn record(&mut self, item: &Item<'_>) {
         match self {
-            RingOutput::Stream(tape) => tape.record(item),
-            RingOutput::File(tape) => tape.record(item),
+            RingOutput::Stream(output) => output.record(item),
+            RingOutput::File(output) => output.record(item),
             RingOutput::Segments(tape) => tape.put(item),
             RingOutput::Nowhere(sink) => sink.record(item),
         }
@@ -150,8 +137,8 @@ impl<'w, A: Outgoing, B: Outgoing, S: SegmentStore<F>, F: Outgoing + Drop> Sink
 
     fn chapter(&mut self, chapter: &Chapter) {
         match self {
-            RingOutput::Stream(tape) => tape.chapter(chapter),
-            RingOutput::File(tape) => tape.chapter(chapter),
+            RingOutput::Stream(output) => output.chapter(chapter),
+            RingOutput::File(output) => output.chapter(chapter),
             RingOutput::Segments(tape) => tape.write_out(),
             RingOutput::Nowhere(sink) => sink.chapter(chapter),
         }
@@ -159,8 +146,8 @@ impl<'w, A: Outgoing, B: Outgoing, S: SegmentStore<F>, F: Outgoing + Drop> Sink
 
     fn caught_up(&mut self) {
         match self {
-            RingOutput::Stream(tape) => tape.caught_up(),
-            RingOutput::File(tape) => tape.caught_up(),
+            RingOutput::Stream(output) => output.caught_up(),
+            RingOutput::File(output) => output.caught_up(),
             RingOutput::Segments(tape) => tape.write_out(),
             RingOutput::Nowhere(sink) => sink.caught_up(),
         }

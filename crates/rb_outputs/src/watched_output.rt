@@ -36,7 +36,7 @@ impl<
     M: OutputWatch,
 > WatchedOutput<'w, A, B, S, F, M> {
     ghost use Rattle.std.specs.Prelude.{◌≡◌, ◌≢◌, false};
-    ghost use Rattle.rb_outputs.specs.Outputs.{EndsAt, has_failed, output_position};
+    ghost use Rattle.rb_outputs.specs.Outputs.{EndsAt, has_failed, IsEndOf, output_position};
 
     /// Returns the output of the ring with this number, watched.
     pub fn new(
@@ -59,6 +59,7 @@ impl<
     pub fn finish(self) -> OutputEnd
         ensures whole { result ≢ OutputEnd.Failed → has_failed self.entry.output ≡ false }
         ensures end { EndsAt (output_position self.entry.output) result }
+        ensures reported { IsEndOf A.writes_out B.writes_out self.entry.output result }
     {
         let WatchedOutput {
             output,

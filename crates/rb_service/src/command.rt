@@ -136,6 +136,23 @@ pub fn stream<'a, T: Threads + Wait + Sync + Files<File = File>, R: Read + Send,
     stream_allowed(rt, alloc, options, gate, metrics, input, out, printed)
 }
 
+// Locks the directory of segments if there is one, and compares the sizes of its rings. The directory is locked until the
+// file is dropped.
+fn enter_folder<'a, T: Files<File = File>>(
+    rt: &T,
+    alloc: Global,
+    options: &StreamOptions<'a>,
+) -> Result<Option<File>, StreamRefusal<'a>>
+    ensures later { IfErr result IsLater }
+{
+    let Some(folder) = options.folder else {
+        return Ok(None);
+    };
+    let lock = lock(rt, alloc, folder)?;
+    check_rings(rt, alloc, folder, options.rings.as_slice())?;
+    Ok(Some(lock))
+}
+
 // Runs the stream with these options, which are allowed.
 fn stream_allowed<
     'a,
@@ -159,21 +176,7 @@ fn stream_allowed<
     let ctx_len = options.form.ctx_len();
     let rings = options.rings.len().min(16) as u32;
     let programs = read_programs(rt, alloc, options, Bounds { ctx_len, rings })?;
-    let Some(folder) = options.folder else {
-        return stream_planned(
-            rt,
-            alloc,
-            options,
-            programs.as_slice(),
-            gate,
-            metrics,
-            input,
-            out,
-            printed,
-        );
-    };
-    let lock = lock(rt, alloc, folder)?;
-    check_rings(rt, alloc, folder, options.rings.as_slice())?;
+    let lock = enter_folder(rt, alloc, options)?;
     let answer = stream_planned(
         rt,
         alloc,

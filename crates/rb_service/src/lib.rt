@@ -25,7 +25,7 @@ pub use command::stream;
 pub use counters::counters_text;
 pub use host::Host;
 pub use metrics::StreamMetrics;
-pub use options::{MetricsFile, NamedRing, SegmentFolder, StreamOptions};
+pub use options::{MetricsFile, NamedRing, RecordForm, SegmentFolder, StreamOptions};
 pub use refusal::StreamRefusal;
 pub use rings::RingPlan;
 pub use service::{Full, ServiceFault, ServiceRequest, serve};

@@ -12,9 +12,18 @@ pub struct NamedRing<'a> {
     pub name: &'a str,
     /// Its size in bytes.
     pub size: u64,
-    /// The file to which its tape is written, or `-` for standard output. If there is none, the tape is written to the
+    /// The file to which its records are written, or `-` for standard output. If there is none, its tape is written to the
     /// directory of segments. If there is no such directory either, the ring's records are consumed and counted.
     pub out: Option<&'a str>,
+}
+
+/// How records are written to a file or to standard output.
+#[derive(Clone, Copy, Debug, PartialEq, Eq)]
+pub enum RecordForm {
+    /// As a tape.
+    Tape,
+    /// As lines: for each record the JSON object that `tape --json` prints for it.
+    Lines,
 }
 
 /// A directory to which tapes are written in segments.
@@ -48,6 +57,8 @@ pub struct StreamOptions<'a> {
     pub framing: Framing,
     /// The form of contexts: their length, and what happens to those of another length.
     pub form: Form,
+    /// How records are written to files and to standard output. Segments are tapes in either case.
+    pub records: RecordForm,
     /// The directory of segments.
     pub folder: Option<SegmentFolder<'a>>,
     /// The file of metrics.

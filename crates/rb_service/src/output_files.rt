@@ -3,24 +3,24 @@
 ghost use Rattle.std.specs.Prelude.{All, IfErr, IfOk};
 ghost use Rattle.rb_history.specs.RingModel.{IsRingSize, IsStartPosition};
 ghost use Rattle.rb_service.specs.Command.{IsLater};
-ghost use Rattle.rb_outputs.specs.Outputs.{output_position};
+ghost use Rattle.rb_outputs.specs.Outputs.{output_position, stream_position};
 
 use crate::folders::open_segments;
 use crate::metrics::StreamMetrics;
-use crate::options::{NamedRing, SegmentFolder, StreamOptions};
+use crate::options::{NamedRing, RecordForm, StreamOptions};
 use crate::refusal::StreamRefusal;
 use crate::rings::RingPlan;
 use rb_io::Buffered;
-use rb_outputs::{RingOutput, WatchedOutput};
+use rb_outputs::{LineSink, RingOutput, StreamOutput, WatchedOutput};
 use rb_run_commands::TapeSink;
 use rb_segments::{DirectoryStore, SegmentFile};
 use rb_workers::{NullSink, OpenGate};
-use std::alloc::Global;
+use std::alloc::{AllocError, Global};
 use std::fs::File;
 use std::io::Write;
 use std::rt::Files;
 
-/// The output of a ring: a tape on `W` or in a file, segments in a directory, or nothing.
+/// The output of a ring: records on `W` or in a file, segments in a directory, or nothing.
 type Output<'a, T, W> = RingOutput<
     'a,
     Buffered<W>,
@@ -39,12 +39,31 @@ pub(crate) type MeasuredOutput<'a, T, W> = WatchedOutput<
     StreamMetrics<'a>,
 >;
 
+// Returns the output of a ring's records on this writer.
+fn output_on<'a, W: Write + Drop>(
+    alloc: Global,
+    writer: W,
+    size: u64,
+    records: RecordForm,
+    gate: &'a OpenGate,
+) -> Result<StreamOutput<'a, Buffered<W>>, AllocError>
+    requires size { IsRingSize size }
+    ensures begins { IfOk result (λ output. IsStartPosition (stream_position output)) }
+{
+    let writer = Buffered::new(alloc, writer)?;
+    match records {
+        RecordForm::Tape => Ok(StreamOutput::Tape(TapeSink::new(writer, size, 0, gate))),
+        RecordForm::Lines => Ok(StreamOutput::Lines(LineSink::new(alloc, writer, 0))),
+    }
+}
+
 // Opens the output of a ring that has a file. `out` is standard output, until a ring has it.
 fn open_file<'a, T: Files<File = File>, W: Write + Drop>(
     rt: &'a T,
     alloc: Global,
     ring: NamedRing<'a>,
     path: &'a str,
+    records: RecordForm,
     out: &mut Option<W>,
     gate: &'a OpenGate,
 ) -> Result<Output<'a, T, W>, StreamRefusal<'a>>
@@ -55,13 +74,13 @@ fn open_file<'a, T: Files<File = File>, W: Write + Drop>(
     if path == "-"
         && let Some(out) = out.take()
     {
-        let tape = Buffered::new(alloc, out)?;
-        return Ok(RingOutput::Stream(TapeSink::new(tape, ring.size, 0, gate)));
+        let output = output_on(alloc, out, ring.size, records, gate)?;
+        return Ok(RingOutput::Stream(output));
     }
     match File::create(rt, path) {
         Ok(file) => {
-            let tape = Buffered::new(alloc, file)?;
-            Ok(RingOutput::File(TapeSink::new(tape, ring.size, 0, gate)))
+            let output = output_on(alloc, file, ring.size, records, gate)?;
+            Ok(RingOutput::File(output))
         }
         Err(_) => Err(StreamRefusal::Open(path)),
     }
@@ -71,8 +90,8 @@ fn open_file<'a, T: Files<File = File>, W: Write + Drop>(
 fn open_output<'a, T: Files<File = File>, W: Write + Drop>(
     rt: &'a T,
     alloc: Global,
+    options: &StreamOptions<'a>,
     ring: NamedRing<'a>,
-    folder: Option<SegmentFolder<'a>>,
     out: &mut Option<W>,
     gate: &'a OpenGate,
 ) -> Result<Output<'a, T, W>, StreamRefusal<'a>>
@@ -81,9 +100,9 @@ fn open_output<'a, T: Files<File = File>, W: Write + Drop>(
     ensures later { IfErr result IsLater }
 {
     if let Some(path) = ring.out {
-        return open_file(rt, alloc, ring, path, out, gate);
+        return open_file(rt, alloc, ring, path, options.records, out, gate);
     }
-    match folder {
+    match options.folder {
         Some(folder) => match open_segments(rt, alloc, folder, ring) {
             Ok(tape) => Ok(RingOutput::Segments(tape)),
             Err(refusal) => Err(refusal),
@@ -109,7 +128,7 @@ pub(crate) fn plan_rings<'a, T: Files<File = File>, W: Write + Drop>(
     let mut out = Some(out);
     for at in 0..options.rings.len() {
         let ring = options.rings[at];
-        let output = open_output(rt, alloc, ring, options.folder, &mut out, gate)?;
+        let output = open_output(rt, alloc, options, ring, &mut out, gate)?;
         let sink = WatchedOutput::new(output, at, metrics);
         plans.reserve(1)?;
         plans.push_reserved(RingPlan {

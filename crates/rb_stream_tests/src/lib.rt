@@ -1,5 +1,5 @@
 //! Tests of streams by public calls alone: contexts as they come, and how they are dealt to workers; a worker, and whole
-//! streams on threads; tapes in segments, in memory and in a directory that `follow` reads.
+//! streams on threads; tapes in segments, in memory and in a directory that `follow` reads; outputs of lines.
 #![tactic(auto)]
 
 #[cfg(test)]
@@ -14,6 +14,8 @@ mod given;
 mod held;
 #[cfg(test)]
 mod in_memory;
+#[cfg(test)]
+mod lines;
 #[cfg(test)]
 mod live;
 #[cfg(test)]
