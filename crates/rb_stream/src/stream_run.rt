@@ -64,7 +64,7 @@ fn run_split<R: Threads + Wait + Sync, I: Source + Send, S: Sink + Send>(
     requires seats { All (λ w. AtRings rings.now w.seats.items) workers.old }
     requires consumers { AllZip (IsConsumerTaskOf S.position_of) rings.now consumers.old }
     requires dealt { (dealt.old.contexts ≡ 0) × (dealt.old.dropped ≡ 0) × IsEndOf I.is_over I.fails source.old dealt.old.end }
-    requires total { IsNewCounts (length programs.now) options.entry.bound total.old }
+    requires total { IsNewCounts (length programs.now) options.bound total.old }
     ensures ran { StreamRan I.gives (length workers.old) programs.now full.now options.entry.bound source.old source.new (seats_of workers.old) (seats_of workers.new) dealt.new total.new }
     ensures end { IsEndOf I.is_over I.fails source.new dealt.new.end }
     ensures seats { All (λ w. AtRings rings.now w.seats.items) workers.new }
@@ -131,7 +131,7 @@ fn run_in<R: Threads + Wait + Sync, I: Source + Send, S: Sink + Send + Drop>(
     requires room { (vec_len opened ≤ vec_capacity rings) × (vec_len opened ≤ vec_capacity consumers) × (vec_len opened ≤ vec_capacity merged) }
     requires workers { (k : ℕ) (d : _) → k < length workers.old → IsNew k (vec_len opened) (slice_index_or workers.old k d) }
     requires dealt { (dealt.old.contexts ≡ 0) × (dealt.old.dropped ≡ 0) × IsEndOf I.is_over I.fails source.old dealt.old.end }
-    requires total { IsNewCounts (length programs.now) options.entry.bound total.old }
+    requires total { IsNewCounts (length programs.now) options.bound total.old }
     ensures returned { AreReturned S.position_of S.takes opened.items result.items }
     ensures consumed { AllZip (IsConsumed S.position_of S.takes) opened.items result.items }
     ensures ran { StreamRan I.gives (workers_of opened.items) programs.now full.now options.entry.bound source.old source.new (λ k. worker_column k (seat_rows opened.items)) (λ k. worker_column k (seat_rows result.items)) dealt.new total.new }
@@ -187,7 +187,7 @@ fn run_and_empty<R: Threads + Wait + Sync, I: Source + Send, S: Sink + Send + Dr
     requires room { (vec_len opened ≤ vec_capacity rings) × (vec_len opened ≤ vec_capacity consumers) × (vec_len opened ≤ vec_capacity merged) }
     requires workers { (k : ℕ) (d : _) → k < length workers.old → IsNew k (vec_len opened) (slice_index_or workers.old k d) }
     requires dealt { (dealt.old.contexts ≡ 0) × (dealt.old.dropped ≡ 0) × IsEndOf I.is_over I.fails source.old dealt.old.end }
-    requires total { IsNewCounts (length programs.now) options.entry.bound total.old }
+    requires total { IsNewCounts (length programs.now) options.bound total.old }
     ensures returned { AreReturned S.position_of S.takes opened.items result.items }
     ensures drained { All IsDrained result.items }
     ensures ran { StreamRan I.gives (workers_of opened.items) programs.now full.now options.entry.bound source.old source.new (λ k. worker_column k (seat_rows opened.items)) (λ k. worker_column k (seat_rows result.items)) dealt.new total.new }
@@ -235,7 +235,7 @@ fn run_known<R: Threads + Wait + Sync, I: Source + Send, S: Sink + Send + Drop>(
     requires fit { All (IsProgramFor (vec_len opened) ctx_len) programs.now }
     requires limits { FitsRings full.now (vec_len opened) }
     requires buffers { HasRoomForRun (workers_of opened.items) (vec_len opened) 0 buffers }
-    requires total { IsNewCounts (length programs.now) options.entry.bound total }
+    requires total { IsNewCounts (length programs.now) options.bound total }
     ensures memory { IfErr result (λ stop. stop.fault ≡ StreamFault.Memory) }
     ensures streamed { IfOk result (IsStreamedAs full.now S.position_of S.takes I.gives opened.items programs.now options.entry.bound source.old source.new) }
     ensures end { IfOk result (λ r. EndsSource I.is_over I.fails source.new r.end) }
