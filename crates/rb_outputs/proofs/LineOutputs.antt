@@ -1,6 +1,5 @@
 -- What an output of lines, on a stream or in a file, was given.
-use Rattle.std.proofs.Common.{◌≡◌, ℕ, Bool, List, [], ◌∷◌, Option, refl}
-use Rattle.rb_history.specs.TapeBytes.{Item}
+use Rattle.std.proofs.Common.{ℕ, Bool, List, [], ◌∷◌, Option, refl}
 use Rattle.rb_segments.specs.Segments.{Segment}
 use Rattle.rb_workers.specs.Sink.{SinkItem, TakesAll}
 use Rattle.rb_run_commands.specs.TapedRun.{sink_tape_items}

@@ -119,11 +119,7 @@ fn record_of<'a>(item: &Item<'a>) -> Record<'a>
 }
 
 // Writes the line of a record.
-fn write_line<W: Write>(
-    alloc: Global,
-    writer: &mut W,
-    item: &Item<'_>,
-) -> Result<(), DeviceFault>
+fn write_line<W: Write>(alloc: Global, writer: &mut W, item: &Item<'_>) -> Result<(), DeviceFault>
     requires len { item_len (item_of item.now) < 2 ^ 32 }
     ensures line { WritesLine (W.contents writer.old) (W.contents writer.new) (tape_object (item_of item.now)) result }
 {
