@@ -123,7 +123,7 @@ impl<'a> StreamMetrics<'a> {
         let mut requests = Vec::with_capacity(self.alloc, self.rings.len())?;
         for ring in 0..self.rings.len() {
             let (made, refused) = self.live.requests(ring);
-            requests.push_reserved(Requests { made, refused });
+            requests.push(Requests { made, refused })?;
         }
         Ok(RunTotals {
             run,
