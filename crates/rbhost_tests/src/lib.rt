@@ -26,6 +26,8 @@ mod kept_file;
 #[cfg(test)]
 mod run_command;
 #[cfg(test)]
+mod sim_command;
+#[cfg(test)]
 mod sim_progress;
 #[cfg(test)]
 mod tape_command;

@@ -69,6 +69,8 @@ fn each_handing_on_is_tried_again(rt: HostRuntime) {
             (1, 2, true),
             (2, 2, false),
             (2, 3, true),
+            (3, 3, false),
+            (3, 4, true),
         ] {
             let (answer, out, are_first) = fed_two(rt.alloc(), (9, 0), (opens, closed), retries);
             let out_wanted = if is_out { 32 } else { out_then };
