@@ -85,6 +85,14 @@ def modules_of_types(folder):
     return {name: module_of(str(it.relative_to(folder))) for it in sorted(source.rglob("*.rt")) for name in DECLARED.findall(it.read_text())}
 
 
+def head_of_block(lines, at):
+    """The head of the block that begins at a line, which may go on over several lines, as one line."""
+    if not lines[at].startswith("impl"):
+        return lines[at]
+    end = next((it for it in range(at, len(lines)) if lines[it].endswith("{")), at)
+    return " ".join(line.strip() for line in lines[at:end + 1])
+
+
 def owner_of(folder, file, lines, at):
     """The function whose signature, clauses or body has the line, or None where it stands outside of any."""
     begin = next((it for it in range(min(at, len(lines) - 1), -1, -1) if FUNCTION.match(lines[it])), None)
@@ -94,10 +102,10 @@ def owner_of(folder, file, lines, at):
     if any(line == indent + "}" for line in lines[begin:at]):
         return None
     block = None
-    for line in reversed(lines[:begin] if indent else []):
-        if line.startswith("}"):
+    for here in range(begin - 1 if indent else -1, -1, -1):
+        if lines[here].startswith("}"):
             break
-        block = IMPL.match(line)
+        block = IMPL.match(head_of_block(lines, here))
         if block:
             break
     if not block:

@@ -91,7 +91,8 @@ impl<'a> Values<'_, 'a> {
         match self.add_outputs(rings, texts)? {
             None => Ok(None),
             Some(path) if self.records() == RecordForm::Lines => {
-                Err(self.wrong("out", path, "NAME=FILE, which --json needs: segments are tapes"))
+                let wanted = "NAME=FILE, which --json needs: segments are tapes";
+                Err(self.wrong("out", path, wanted))
             }
             Some(path) => Ok(Some(SegmentFolder { path, plan })),
         }

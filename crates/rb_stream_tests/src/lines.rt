@@ -14,7 +14,8 @@ use std::test::Fail;
 
 type Output<'w, W> = RingOutput<'w, Buffered<W>, Buffered<Vec<u8>>, MemoryStore, MemoryFile>;
 
-const LINES: &[u8] = b"{\"pos\":0,\"len\":8,\"discarded\":false,\"hex\":\"7361792022686922\",\"text\":\"say \\\"hi\\\"\"}
+const LINES: &[u8] =
+    b"{\"pos\":0,\"len\":8,\"discarded\":false,\"hex\":\"7361792022686922\",\"text\":\"say \\\"hi\\\"\"}
 {\"pos\":16,\"len\":9,\"discarded\":true}
 {\"pos\":40,\"len\":2,\"discarded\":false,\"hex\":\"ff00\"}
 {\"pos\":56,\"len\":0,\"discarded\":false,\"hex\":\"\",\"text\":\"\"}
