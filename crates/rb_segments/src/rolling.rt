@@ -37,13 +37,42 @@ pub(crate) fn tend<S: SegmentStore<F>, F: Outgoing + Drop>(
     ensures closed { OnOk result (closed.new.items ≡ kept plan.keep tape.old.position (closed_after plan closed.old.items opened.old tape.old.position)) }
     ensures keeps { KeepsRecords (directory_at S.segments F.contents store.old tape.old.writer opened.old) tape.old.position (directory_at S.segments F.contents store.new tape.new.writer opened.new) }
 {
+    roll(store, tape, closed, opened, size, plan)?;
+    delete_old(store, closed, plan.keep, tape.position())
+}
+
+// Closes the open segment if it is full, and creates the next one. At an error the open segment stays open.
+fn roll<S: SegmentStore<F>, F: Outgoing + Drop>(
+    store: &mut S,
+    tape: &mut TapeWriter<F>,
+    closed: &mut VecDeque<u64>,
+    opened: &mut u64,
+    size: u64,
+    plan: SegmentPlan,
+) -> Result<(), SegmentFault>
+    requires finished { tape.old.unfinished ≡ None }
+    requires size { IsRingSize size }
+    requires same_size { tape.old.size ≡ size }
+    requires created { IsOnlyCreated opened.old (S.created store.old) }
+    requires positions { HavePositions closed.old.items (S.segments store.old) }
+    ensures created { OnOk result (IsOnlyCreated opened.new (S.created store.new)) }
+    ensures finished { tape.new.unfinished ≡ None }
+    ensures same_size { tape.new.size ≡ size }
+    ensures position { tape.new.position ≡ tape.old.position }
+    ensures positions { HavePositions closed.new.items (S.segments store.new) }
+    ensures opened { OnOk result (opened.new ≡ opened_after plan opened.old tape.old.position) }
+    ensures closed { OnOk result (closed.new.items ≡ closed_after plan closed.old.items opened.old tape.old.position) }
+    ensures still_open { OnErr result (opened.new ≡ opened.old) }
+    ensures still_closed { OnErr result (closed.new.items ≡ closed.old.items) }
+    ensures keeps { KeepsRecords (directory_at S.segments F.contents store.old tape.old.writer opened.old) tape.old.position (directory_at S.segments F.contents store.new tape.new.writer opened.new) }
+{
     let position = tape.position();
     if position.saturating_sub(*opened) < plan.segment || !is_start(position) {
-        return delete_old(store, closed, plan.keep, position);
+        return Ok(());
     }
     turn(store, tape, closed, *opened, size)?;
     *opened = position;
-    delete_old(store, closed, plan.keep, position)
+    Ok(())
 }
 
 // Closes the open segment, which was synced before, and creates the next one.
