@@ -90,8 +90,8 @@ pub record IsHeldWithin (program : List Insn) (before : List Moment) (held : Lis
 abbrev pub ring_cost_at : Cost → ℕ → RingCost
 ring_cost_at cost ring = slice_index_or cost.rings.items ring no_ring_cost
 
--- a run that came to a moment stayed within a cost: its steps, its calls, what it requested, what it was granted, and
--- what it holds at that moment
+-- a run stayed within a cost up to a moment: its steps, its calls, what it requested, what it was granted, and what it
+-- holds at that moment
 pub record IsRunWithin (subject : Subject) (cost : Cost) (last : Moment) (before : List Moment) : Type 0 where
   pub steps : length (last ∷ before) ≤ cost.steps
   pub calls : count_by (λ m. is_some (call_at subject.program m)) (last ∷ before) ≤ cost.calls

@@ -23,7 +23,7 @@ pub enum Late {
     Drop,
 }
 
-/// Why a reader ended.
+/// The reason why a reader ended.
 #[derive(Clone, Copy, Debug, PartialEq, Eq)]
 pub enum DealEnd {
     /// The source has ended.
@@ -36,7 +36,7 @@ pub enum DealEnd {
     Short,
 }
 
-/// What a reader has dealt. Each count saturates at `u64::MAX`.
+/// The counts of what a reader has dealt, and why it ended. Each count saturates at `u64::MAX`.
 #[derive(Clone, Copy, Debug, PartialEq, Eq)]
 pub struct Dealt {
     /// The number of contexts that the source gave.

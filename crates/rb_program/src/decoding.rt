@@ -95,7 +95,7 @@ pub fn encode(alloc: Global, program: &Program) -> Result<Vec<u8>, AllocError>
     Ok(bytes)
 }
 
-/// The laws of decoding: bytes that encode a program have no fault, and bytes have at most one first fault.
+/// States the laws of decoding: bytes that encode a program have no fault, and bytes have at most one first fault.
 ///
 /// For the proofs of callers; it does nothing at run time.
 pub fn decoding_laws()

@@ -77,7 +77,7 @@ impl<T: Drop> From<AllocFailed<T>> for DecodeFault {
     }
 }
 
-/// Why a text is not a program.
+/// The reason why a text is not a program.
 #[derive(Clone, Copy, Debug, PartialEq, Eq, Error)]
 pub enum TextFault {
     /// The text, without its white space, is not a sequence of pairs of hex digits.

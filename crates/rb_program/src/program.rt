@@ -31,7 +31,7 @@ impl Model for Program {
     ghost invariant = { λ p. AreUnits p.units.items };
 }
 
-/// Whether the instruction before `unit` is wide, so that `unit` is its second unit.
+/// Returns whether the instruction before `unit` is wide, so that `unit` is its second unit.
 fn is_behind_wide(units: &[Insn], unit: usize) -> bool
     ensures { result ≡ is_behind_wide_of units.now unit }
 {
@@ -90,8 +90,8 @@ impl Program {
         Code { units: &self.units }
     }
 
-    /// The invariant of every program: it has 1 to 4096 units, an instruction begins at each unit except the second
-    /// units of wide instructions, and the numbers in each instruction fit their fields.
+    /// States the invariant of every program: it has 1 to 4096 units, an instruction begins at each unit except the
+    /// second units of wide instructions, and the numbers in each instruction fit their fields.
     ///
     /// For the proofs of callers; it does nothing at run time.
     pub fn facts(&self)

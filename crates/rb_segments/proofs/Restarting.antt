@@ -1,4 +1,4 @@
--- What a tape that goes on after a restart has written.
+-- What a tape that continues after a restart has written.
 use Rattle.std.proofs.Common.{◌≡◌, ℕ, ◌+◌, List, [], ◌∷◌, ◌++◌, length, take, refl, sym, ap, ◌∙◌, subst, append-nil, arith, length-append}
 use Rattle.std.specs.Prelude.{map, Option, None, Some, IfSome}
 use Rattle.std.proofs.lemmas.List.{map-append}

@@ -11,11 +11,11 @@ use std::io::{ErrorKind, Read, Seek, SeekFrom};
 use std::rt::Files;
 use std::{fs, io};
 
-/// The number of bytes of names that are read at a time.
+/// The size in bytes of the buffer for file names.
 const PIECE: usize = 4096;
 
-/// Keeps the segments of a ring as files of a directory, `FOLDER/RING.POSITION.tape`. No contract says which bytes the
-/// file system has.
+/// A store that keeps the segments of a ring as the files `FOLDER/RING.POSITION.tape` of a directory. Contracts say
+/// nothing about the bytes in the file system.
 #[derive(Drop)]
 pub struct DirectoryStore<'a, R> {
     rt: &'a R,
@@ -27,7 +27,7 @@ pub struct DirectoryStore<'a, R> {
 }
 
 impl<'a, R: Files> DirectoryStore<'a, R> {
-    /// Returns the store of the ring's segments in an existing directory. Nothing is read yet.
+    /// Returns a store for the ring's segments in an existing directory, without reading it.
     pub fn new(rt: &'a R, alloc: Global, folder: &'a str, ring: &'a str) -> DirectoryStore<'a, R> {
         DirectoryStore {
             rt,
@@ -38,7 +38,7 @@ impl<'a, R: Files> DirectoryStore<'a, R> {
         }
     }
 
-    // Stores the error of a failed call.
+    // Converts the result of a system call, and keeps its error.
     fn noted<T>(&mut self, answer: io::Result<T>) -> Result<T, DeviceFault> {
         match answer {
             Ok(value) => Ok(value),

@@ -1,5 +1,13 @@
-//! The tape of a ring in segments: files of a directory, each a whole tape by itself, named by the position of its first record
-//! (`specs/Segments.antt`).
+//! Writes the tape of a ring in segments: files of a directory, each a complete tape that is named by the position of
+//! its first record (`specs/Segments.antt`).
+//!
+//! A `SegmentWriter` writes segments, rolls them and deletes old ones by a `SegmentPlan`; `SegmentWriter::open`
+//! continues a tape after a restart. A `SegmentStore` keeps the segments: a `DirectoryStore` as files, a `MemoryStore`
+//! in memory.
+//!
+//! Proved: the segments of a store that are known, preceded by the deleted ones, hold exactly the records that were
+//! put, unless a fault ended the tape; a restart loses no complete record; and concatenated segments are the tape of
+//! their records (`joined_segments_are_the_tape`).
 #![tactic(auto)]
 
 mod directory_store;

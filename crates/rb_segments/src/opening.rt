@@ -1,4 +1,4 @@
-//! Opening a store: starts a tape, or continues the one that the store has.
+//! Opens a store: starts a tape, or continues the stored one.
 
 ghost use Rattle.std.specs.Prelude.{◌≡◌, [], ◌∷◌, ◌++◌, None, Some, IfOk, IfSome, OnOk, map};
 ghost use Rattle.rb_history.specs.RingModel.{IsRingSize, IsStartPosition};
@@ -18,8 +18,10 @@ use std::alloc::{AllocError, Global};
 use std::collections::VecDeque;
 
 impl<S: SegmentStore<F>, F: Outgoing + Drop> SegmentWriter<S, F> {
-    /// Opens a store. If it has no segments, a tape starts at position `start`. Otherwise the newest segment is truncated
-    /// to its longest list of whole records, and the tape continues after them. The newest segment is read into memory.
+    /// Opens a store, and returns a writer for its tape.
+    ///
+    /// If the store has no segments, the tape starts at position `start`. Otherwise the newest segment is truncated
+    /// after its last complete record, and the tape continues there. Reads the newest segment into memory.
     pub fn open(
         alloc: Global,
         mut store: S,
@@ -50,7 +52,7 @@ impl<S: SegmentStore<F>, F: Outgoing + Drop> SegmentWriter<S, F> {
     }
 }
 
-// Continues after the whole records of the newest segment.
+// Continues after the complete records of the newest segment.
 fn resume<S: SegmentStore<F> + Drop, F: Outgoing + Drop>(
     alloc: Global,
     mut store: S,
@@ -103,7 +105,7 @@ fn positions(alloc: Global, list: &[StoredSegment]) -> Result<VecDeque<u64>, All
     Ok(positions)
 }
 
-// Returns the length of the longest list of whole records at the front of the segment.
+// Returns how many bytes the complete records of a segment take up.
 fn whole_length(bytes: &[u8], size: u64, opened: u64) -> Result<u64, OpeningFault>
     requires size { IsRingSize size }
     ensures start { OnOk result (IsStartPosition opened) }

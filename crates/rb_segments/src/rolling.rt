@@ -14,7 +14,7 @@ use rb_io::Outgoing;
 use rb_tape::TapeWriter;
 use std::collections::VecDeque;
 
-/// Closes the open segment and creates the next one if it is full, and deletes the oldest ones beyond the plan's limit.
+/// Rolls the open segment if it is full, and deletes the oldest segments beyond the plan's limit.
 pub(crate) fn tend<S: SegmentStore<F>, F: Outgoing + Drop>(
     store: &mut S,
     tape: &mut TapeWriter<F>,
@@ -41,7 +41,7 @@ pub(crate) fn tend<S: SegmentStore<F>, F: Outgoing + Drop>(
     delete_old(store, closed, plan.keep, tape.position())
 }
 
-// Closes the open segment if it is full, and creates the next one. At an error the open segment stays open.
+// Closes the open segment if it is full, and creates the next one. If that fails, the open segment stays open.
 fn roll<S: SegmentStore<F>, F: Outgoing + Drop>(
     store: &mut S,
     tape: &mut TapeWriter<F>,
@@ -75,7 +75,7 @@ fn roll<S: SegmentStore<F>, F: Outgoing + Drop>(
     Ok(())
 }
 
-// Closes the open segment, which was synced before, and creates the next one.
+// Closes the open segment, which is already synced, and creates the next one.
 fn turn<S: SegmentStore<F>, F: Outgoing + Drop>(
     store: &mut S,
     tape: &mut TapeWriter<F>,

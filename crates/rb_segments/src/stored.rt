@@ -1,10 +1,10 @@
 //! A segment in a listing.
 
-/// A segment of a store, in a listing.
+/// A segment, as a store lists it.
 #[derive(Clone, Copy, Debug, PartialEq, Eq)]
 pub struct StoredSegment {
     /// The position that names it.
     pub position: u64,
-    /// How many bytes it has.
+    /// Its length in bytes.
     pub length: u64,
 }

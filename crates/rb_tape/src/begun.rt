@@ -1,4 +1,4 @@
-//! The record that a writer has begun, for contracts only.
+//! The record that a writer has begun. Only contracts read it.
 
 ghost use Rattle.std.specs.Prelude.{◌≡◌};
 ghost use Rattle.std.specs.Borrow.{ftrue};

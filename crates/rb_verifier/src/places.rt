@@ -53,7 +53,7 @@ pub(crate) fn whole_place(at: u64, len: u64) -> Option<u64>
     }
 }
 
-/// Whether a place overlaps the `len` bytes from byte `at` on.
+/// Returns whether a place overlaps the `len` bytes from byte `at` on.
 fn touches(at: u64, len: u64, place: u64) -> bool
     requires { at + len ≤ 512 }
     ensures { result ≡ touches at len place }
@@ -61,7 +61,7 @@ fn touches(at: u64, len: u64, place: u64) -> bool
     0 < len && at / 8 <= place && place <= (at + len - 1) / 8
 }
 
-/// Whether all of these are `Number`.
+/// Returns whether all of these are `Number`.
 fn are_numbers(values: &[Abs]) -> bool
     ensures all { result ≡ true → (k : ℕ) → slice_index_or values.now k Abs.Number ≡ Abs.Number }
     ensures other { result ≡ false → (k : ℕ) × (k < length values.now) × (slice_index_or values.now k Abs.Number ≢ Abs.Number) }
@@ -84,7 +84,7 @@ impl Places {
         }
     }
 
-    /// Whether every place holds data.
+    /// Returns whether every place holds data.
     fn have_data(&self) -> bool
         ensures all { result ≡ true → self.now ≡ all_data }
         ensures pointer { result ≡ false → MayKeepPointer self.now }
@@ -219,7 +219,7 @@ impl Places {
         Ok(Places { items })
     }
 
-    /// Whether each place is below that of `upper`.
+    /// Returns whether each place is below that of `upper`.
     pub(crate) fn are_below(&self, upper: &Places) -> bool
         ensures { IsTrue result ↔ ((place : ℕ) → BelowValue (known_in self.now place) (known_in upper.now place)) }
     {
@@ -232,7 +232,7 @@ impl Places {
         true
     }
 
-    /// Whether one of the `len` bytes from byte `at` on may belong to a pointer.
+    /// Returns whether one of the `len` bytes from byte `at` on may belong to a pointer.
     pub(crate) fn may_keep(&self, at: u64, len: u64) -> bool
         requires { at + len ≤ 512 }
         ensures { result ≡ may_keep at len (known_in self.now) }

@@ -32,7 +32,6 @@ clean c (d, n) = elim c.else-header-2.branch [
   | else-header-2-via-else-header-2 w ↦ true≢false (sym d ∙ w.if-header-2.false)
 ]
 
--- src/fronts.rt:56:9
 pub returns-then-not-is_zero-2 : goal.returns-then-not-is_zero-2
 returns-then-not-is_zero-2 c = record {
   finds = (
