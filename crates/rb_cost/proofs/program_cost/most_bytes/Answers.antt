@@ -4,7 +4,7 @@ use Rattle.rb_cost.specs.declared.counted.Counted.TheVariants.{Records}
 use Rattle.rb_cost.specs.Paths.{IsPath, IsMost}
 use Rattle.rb_cost.specs.inner.Pass.{total, weight_at}
 use Rattle.rb_cost.proofs.Unasked.{unasked}
-use Rattle.rb_cost.proofs.costing.most_bytes.Goals as goal
+use Rattle.rb_cost.proofs.program_cost.most_bytes.Goals as goal
 
 pub returns-then-records-eq0 : goal.returns-then-records-eq0
 returns-then-records-eq0 c =

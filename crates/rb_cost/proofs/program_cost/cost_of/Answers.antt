@@ -10,7 +10,7 @@ use Rattle.rb_cost.specs.Cost.{IsCostUnder}
 use Rattle.rb_cost.specs.inner.Pass.{IsSmall}
 use Rattle.rb_cost.proofs.Sizes.{asked_small}
 use Rattle.rb_cost.proofs.Agreeing.{cost_same}
-use Rattle.rb_cost.proofs.costing.cost_of.Goals as goal
+use Rattle.rb_cost.proofs.program_cost.cost_of.Goals as goal
 
 if_ok_weaker : {T E : Type 0} {P Q : T → Type 0} (r : Result T E) → ((x : T) → P x → Q x) → IfOk r P → IfOk r Q
 if_ok_weaker (Ok x) k h = k x h

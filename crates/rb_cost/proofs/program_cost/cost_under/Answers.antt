@@ -6,7 +6,7 @@ use Rattle.std.proofs.Math.Seq.{get_or-append_seam}
 use Rattle.rb_verifier.specs.Annotation.{state_at}
 use Rattle.rb_cost.specs.Cost.{IsRingCost, no_ring_cost}
 use Rattle.rb_cost.proofs.Agreeing.{most_same, total-steps}
-use Rattle.rb_cost.proofs.costing.cost_under.Goals as goal
+use Rattle.rb_cost.proofs.program_cost.cost_under.Goals as goal
 
 -- what holds for each index of a list, and for one more element, holds for each index of the longer list
 each_pushed : {X : Type 0} (P : ℕ → X → Type 0) (xs : List X) (y d : X) (n : ℕ) → length xs ≡ n → ((k : ℕ) → k < n → P k (slice_index_or xs k d)) → P n y → (k : ℕ) → k < n + 1 → P k (slice_index_or (xs ++ y ∷ []) k d)
