@@ -27,7 +27,7 @@ use Rattle.rb_semantics.specs.ProgramMemory.{Memory, read, byte_of, byte_range, 
 use Rattle.rb_semantics.specs.ProgramStates.{State, register, operand_in, with_register, pointed, fill_of}
 use Rattle.rb_semantics.specs.HelperCalls.{HelperCall, Reserve, Submit, Discard, call_of_helper, call_reserve, call_give_back, call_given_back, call_output, call_handed_out, call_query}
 use Rattle.rb_semantics.specs.Instructions.{StepEffect, Goes, Ends, Asks, Stuck, goes_to, goes_by_edge, gives, execute_copy, execute_compute, execute_arithmetic, execute_load, execute_fill, after_store, execute_store, execute_spill, execute_compare, null_test, waits_for, execute_exit, execute, signed_number}
-use Rattle.rb_cost.specs.declared.asking.Asked.{Asked}
+use Rattle.rb_cost.specs.declared.requested_record.Asked.{Asked}
 use Rattle.rb_cost.specs.Runs.{asked_by_call}
 
 -- the record that two values name

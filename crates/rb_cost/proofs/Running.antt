@@ -33,7 +33,7 @@ use Rattle.rb_semantics.proofs.Keeping.{CanStepUnder, IsSoundUnder, can_step}
 use Rattle.rb_semantics.proofs.Sound.{instruction_keeps, can_start_under}
 use Rattle.rb_semantics.proofs.Laws.{step_is, resume-resumes, calls_helper}
 use Rattle.rb_semantics.proofs.Checks.{ring_passed}
-use Rattle.rb_cost.specs.declared.asking.Asked.{Asked}
+use Rattle.rb_cost.specs.declared.requested_record.Asked.{Asked}
 use Rattle.rb_cost.specs.declared.cost.Cost.{Cost}
 use Rattle.rb_cost.specs.Paths.{IsPath}
 use Rattle.rb_cost.specs.Asking.{record_of, asked_of_helper, asked_by, asked_in, asked_at, is_on, bytes_on, is_of_ring, held_span}

@@ -5,7 +5,7 @@ use Rattle.std.proofs.lemmas.List.Sums.{sum_by-cons}
 use Rattle.rb_insn.specs.declared.insn.Insn.{Insn}
 use Rattle.rb_verifier.specs.Annotation.{Annotation}
 use Rattle.rb_history.specs.Span.{span}
-use Rattle.rb_cost.specs.declared.asking.Asked.{Asked}
+use Rattle.rb_cost.specs.declared.requested_record.Asked.{Asked}
 use Rattle.rb_cost.specs.declared.counted.Counted.TheVariants.{Records, Bytes}
 use Rattle.rb_cost.specs.Paths.{IsPath, IsMost}
 use Rattle.rb_cost.specs.Asking.{asked_at, is_on, bytes_on}

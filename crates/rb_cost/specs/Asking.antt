@@ -14,7 +14,7 @@ use Rattle.rb_verifier.specs.HelperChecks.{helper_of}
 use Rattle.rb_verifier.specs.AbstractStates.{value_in}
 use Rattle.rb_verifier.specs.Annotation.{Annotation}
 use Rattle.rb_history.specs.Span.{span}
-use Rattle.rb_cost.specs.declared.asking.Asked.{Asked}
+use Rattle.rb_cost.specs.declared.requested_record.Asked.{Asked}
 
 -- a record of a ring, if the ring and the length in bytes are known
 abbrev pub record_of : Abs → Abs → Option Asked

@@ -7,7 +7,7 @@ use Rattle.rb_verifier.specs.Subject.{Subject, limits_of}
 use Rattle.rb_semantics.specs.ProgramStates.{State, entry_program_state}
 use Rattle.rb_semantics.specs.HelperCalls.{HelperCall, Reserve, Output, pending_call_of, HelperAnswer, Granted, Code, Resumes, resume}
 use Rattle.rb_semantics.specs.Instructions.{StepEffect, Goes, Asks, next_step}
-use Rattle.rb_cost.specs.declared.asking.Asked.{Asked}
+use Rattle.rb_cost.specs.declared.requested_record.Asked.{Asked}
 use Rattle.rb_cost.specs.declared.cost.Cost.{Cost}
 use Rattle.rb_cost.specs.declared.cost.RingCost.{RingCost}
 use Rattle.rb_cost.specs.Asking.{is_on, bytes_on}

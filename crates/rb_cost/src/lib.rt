@@ -14,7 +14,7 @@
 //! ```
 #![tactic(auto)]
 
-mod asking;
+mod requested_record;
 mod cost;
 mod cost_laws;
 mod cost_lines;

@@ -9,7 +9,7 @@ ghost use Rattle.rb_cost.specs.Paths.{IsPath, IsMost};
 ghost use Rattle.rb_cost.specs.Asking.{asked_at};
 ghost use Rattle.rb_cost.specs.inner.Pass.{IsSmall, Raises, Progress, weight_at, total};
 
-use crate::asking::weight;
+use crate::requested_record::weight;
 use crate::counted::Counted;
 use rb_insn::Insn;
 use rb_program::{Program, jump_target, next_unit};

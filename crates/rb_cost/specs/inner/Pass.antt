@@ -7,7 +7,7 @@ use Rattle.rb_program.specs.Shape.{IsInstructionStart}
 use Rattle.rb_verifier.specs.declared.state.AbsState.{AbsState}
 use Rattle.rb_verifier.specs.Annotation.{Annotation, state_at}
 use Rattle.rb_verifier.specs.Subject.{calls}
-use Rattle.rb_cost.specs.declared.asking.Asked.{Asked}
+use Rattle.rb_cost.specs.declared.requested_record.Asked.{Asked}
 use Rattle.rb_cost.specs.declared.counted.Counted.{Counted}
 use Rattle.rb_cost.specs.declared.counted.Counted.TheVariants.{Steps, Calls, Records, Bytes}
 use Rattle.rb_cost.specs.Paths.{IsPath}
