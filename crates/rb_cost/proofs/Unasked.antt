@@ -6,7 +6,7 @@ use Rattle.rb_insn.specs.declared.insn.Insn.{Insn}
 use Rattle.rb_verifier.specs.Annotation.{Annotation}
 use Rattle.rb_history.specs.Span.{span}
 use Rattle.rb_cost.specs.declared.requested_record.Asked.{Asked}
-use Rattle.rb_cost.specs.declared.counted.Counted.TheVariants.{Records, Bytes}
+use Rattle.rb_cost.specs.declared.path_quantity.Counted.TheVariants.{Records, Bytes}
 use Rattle.rb_cost.specs.Paths.{IsPath, IsMost}
 use Rattle.rb_cost.specs.Asking.{asked_at, is_on, bytes_on}
 use Rattle.rb_cost.specs.inner.Pass.{total, weight_at}

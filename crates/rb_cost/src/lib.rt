@@ -19,7 +19,7 @@ mod cost;
 mod cost_laws;
 mod cost_lines;
 mod program_cost;
-mod counted;
+mod path_quantity;
 mod held;
 mod pass;
 mod ring_size;

@@ -10,7 +10,7 @@ ghost use Rattle.rb_cost.specs.Asking.{asked_at};
 ghost use Rattle.rb_cost.specs.inner.Pass.{IsSmall, Raises, Progress, weight_at, total};
 
 use crate::requested_record::weight;
-use crate::counted::Counted;
+use crate::path_quantity::Counted;
 use rb_insn::Insn;
 use rb_program::{Program, jump_target, next_unit};
 use rb_verifier::AbsState;

@@ -4,7 +4,7 @@ ghost use Rattle.std.specs.Prelude.{◌≡◌, ◌≤◌, ◌^◌, Some};
 ghost use Rattle.rb_cost.specs.Asking.{asked_by};
 ghost use Rattle.rb_cost.specs.inner.Pass.{IsSmall, weight_in};
 
-use crate::counted::Counted;
+use crate::path_quantity::Counted;
 use rb_history::span;
 use rb_insn::Insn;
 use rb_verifier::{Abs, AbsState, Helper};

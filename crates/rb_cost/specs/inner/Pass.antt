@@ -8,8 +8,8 @@ use Rattle.rb_verifier.specs.declared.state.AbsState.{AbsState}
 use Rattle.rb_verifier.specs.Annotation.{Annotation, state_at}
 use Rattle.rb_verifier.specs.Subject.{calls}
 use Rattle.rb_cost.specs.declared.requested_record.Asked.{Asked}
-use Rattle.rb_cost.specs.declared.counted.Counted.{Counted}
-use Rattle.rb_cost.specs.declared.counted.Counted.TheVariants.{Steps, Calls, Records, Bytes}
+use Rattle.rb_cost.specs.declared.path_quantity.Counted.{Counted}
+use Rattle.rb_cost.specs.declared.path_quantity.Counted.TheVariants.{Steps, Calls, Records, Bytes}
 use Rattle.rb_cost.specs.Paths.{IsPath}
 use Rattle.rb_cost.specs.Asking.{asked_in, is_on, bytes_on, is_of_ring, held_span}
 
