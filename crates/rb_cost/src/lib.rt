@@ -20,7 +20,7 @@ mod cost_laws;
 mod cost_lines;
 mod program_cost;
 mod path_quantity;
-mod held;
+mod holdings;
 mod pass;
 mod ring_size;
 mod turn_size;

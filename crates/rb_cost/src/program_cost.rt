@@ -11,7 +11,7 @@ ghost use Rattle.rb_cost.specs.inner.Pass.{IsSmall, total, weight_at};
 
 use crate::cost::{Cost, RingCost};
 use crate::path_quantity::Counted;
-use crate::held::most_held;
+use crate::holdings::most_held;
 use crate::pass::most_on_path;
 use rb_program::Program;
 use rb_verifier::{AbsState, Verified};

@@ -1,5 +1,5 @@
 use Rattle.rb_cost.specs.inner.Pass.{IsMostBefore, records_held, bytes_held}
-use Rattle.rb_cost.proofs.held.most_held.Given as goal
+use Rattle.rb_cost.proofs.holdings.most_held.Given as goal
 
 abbrev pub invariant-loop-unit : goal.invariant-loop-unit
 invariant-loop-unit l = record {

@@ -1,7 +1,7 @@
 use Rattle.std.proofs.Common.{◌≡◌, ◌≤◌, ◌*◌, ◌^◌, take}
 use Rattle.std.specs.Prelude.{sum_by}
 use Rattle.rb_cost.specs.Asking.{held_span}
-use Rattle.rb_cost.proofs.held.held_bytes.Given as goal
+use Rattle.rb_cost.proofs.holdings.held_bytes.Given as goal
 
 abbrev pub invariant-loop-reference : goal.invariant-loop-reference
 invariant-loop-reference l = record {

@@ -8,8 +8,8 @@ use Rattle.rb_verifier.specs.Annotation.{state_at}
 use Rattle.rb_cost.specs.Asking.{is_of_ring, held_span}
 use Rattle.rb_cost.specs.inner.Pass.{IsMostBefore, records_held, bytes_held}
 use Rattle.rb_cost.proofs.Holding.{none_here, one_more, most_of_units}
-use Rattle.rb_cost.proofs.held.most_held.Goals as goal
-use Rattle.rb_cost.proofs.held.most_held.Goals.{in-Some, in_default}
+use Rattle.rb_cost.proofs.holdings.most_held.Goals as goal
+use Rattle.rb_cost.proofs.holdings.most_held.Goals.{in-Some, in_default}
 
 pub loop-unit-preserved : goal.loop-unit-preserved
 loop-unit-preserved c =
