@@ -19,7 +19,7 @@
 
 mod advice;
 mod assembly;
-mod explaining;
+mod program_explanation;
 mod explanation;
 mod forms;
 mod lines;
@@ -32,5 +32,5 @@ mod symbols;
 mod windows;
 
 pub use assembly::Assembly;
-pub use explaining::{explain, explain_bytes};
+pub use program_explanation::{explain, explain_bytes};
 pub use explanation::{Explanation, Reason};

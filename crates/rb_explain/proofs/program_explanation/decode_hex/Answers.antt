@@ -1,6 +1,6 @@
 use Rattle.std.proofs.lemmas.Result.{err_from_is_err_and}
 use Rattle.rb_program.proofs.Texts.{hex_fault, decode_of-is_hex}
-use Rattle.rb_explain.proofs.explaining.decode_hex.Goals as goal
+use Rattle.rb_explain.proofs.program_explanation.decode_hex.Goals as goal
 
 pub returns-in_err-bytes-clause-fault : goal.returns-in_err-bytes-clause-fault
 returns-in_err-bytes-clause-fault c =
