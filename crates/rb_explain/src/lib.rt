@@ -26,7 +26,7 @@ mod lines;
 mod listing;
 mod objects;
 mod parts;
-mod saying;
+mod fault_messages;
 mod state_lines;
 mod symbols;
 mod windows;
