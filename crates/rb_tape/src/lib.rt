@@ -41,7 +41,7 @@
 //! The calls are tested in rb_ring_tests and rb_ring_rows.
 #![tactic(auto)]
 
-mod begun;
+mod begun_record;
 mod failures;
 mod fault;
 mod feed;

@@ -28,12 +28,12 @@ use denote.Triple.Spec.{Meets, triple_of}
 use denote.Triple.Table.{entered}
 use denote.Triple.Walked.{says, stay_none_ref, Stays, walk_of, Walks, ends_at, walked, Goes-none_ref, walk_Meets}
 use Rattle.rb_tape.specs.Items.{item_of}
-use Rattle.rb_tape.specs.contracts.begun.Begun as begun
+use Rattle.rb_tape.specs.contracts.begun_record.Begun as begun
 use Rattle.rb_tape.specs.contracts.item.Item as lent
-use Rattle.rb_tape.specs.contracts.begun.Begun.of as f
-use Rattle.rb_tape.specs.contracts.begun.Begun.of.Key.{name as key}
-use Rattle.rb_tape.proofs.begun.Begun.of.Statement as stated
-use Rattle.rb_tape.proofs.begun.Begun.of.Code as code
+use Rattle.rb_tape.specs.contracts.begun_record.Begun.of as f
+use Rattle.rb_tape.specs.contracts.begun_record.Begun.of.Key.{name as key}
+use Rattle.rb_tape.proofs.begun_record.Begun.of.Statement as stated
+use Rattle.rb_tape.proofs.begun_record.Begun.of.Code as code
 
 abbrev stayed : Stays (f.ended).signature.params (f.ended).kept
 stayed = (stay_none_ref (0 ∷ []) tt (plain (λ κs. lent.the_row (named_lft 2 1 tt κs))) yes, tt)
