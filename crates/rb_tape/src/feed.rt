@@ -3,7 +3,7 @@
 ghost use Rattle.std.specs.Prelude.{◌≡◌, ◌≤◌, drop, length};
 
 use crate::fault::{TapeFault, TapeKind};
-use crate::front::{look, record_at_front};
+use crate::record_parser::{look, record_at_front};
 use crate::record::Record;
 use rb_history::{SetupFault, is_size, is_start, span};
 use std::alloc::Global;

@@ -45,7 +45,7 @@ mod begun_record;
 mod failures;
 mod fault;
 mod feed;
-mod front;
+mod record_parser;
 mod item;
 mod items;
 mod longest_list;

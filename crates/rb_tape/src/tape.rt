@@ -1,7 +1,7 @@
 //! A reader of a tape that is in memory as a whole.
 
 use crate::fault::{TapeFault, TapeKind};
-use crate::front::{look, record_at_front};
+use crate::record_parser::{look, record_at_front};
 use crate::record::Record;
 use rb_history::{SetupFault, is_size, is_start, span};
 use std::marker::Model;

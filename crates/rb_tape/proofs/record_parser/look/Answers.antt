@@ -4,8 +4,8 @@ use Rattle.std.proofs.lemmas.List.{length-drop}
 use Rattle.rb_history.specs.TapeBytes.{padding}
 use Rattle.rb_tape.specs.TapeFront.{StartsWithHeader, IsHeaderAt, HasDiscardedBytes, payload_behind, padding_behind}
 use Rattle.rb_tape.proofs.TapeFronts.{begins_bytes, payload_part, padding_part, are_zeros, were_zeros}
-use Rattle.rb_tape.proofs.front.look.Goals as goal
-use Rattle.rb_tape.proofs.front.look.Goals.{else-header-2-via-then-header-2+else-not-is_zero, else-header-2-via-else-header-2}
+use Rattle.rb_tape.proofs.record_parser.look.Goals as goal
+use Rattle.rb_tape.proofs.record_parser.look.Goals.{else-header-2-via-then-header-2+else-not-is_zero, else-header-2-via-else-header-2}
 
 begins : (c : goal.Then-not-is_zero-2) → StartsWithHeader c.args.bytes.now c.in-Ok.header (drop 8 c.args.bytes.now)
 begins c = begins_bytes c.args.bytes.now c.in-Ok.header c.in-Ok.ensures.found.0.fields (c.in-Ok.ensures.found.1 ∙ c.copy_from_slice.ensures.after)
