@@ -18,7 +18,7 @@ use crate::counts::ContextCounts;
 use crate::emit::emit;
 use crate::form::Form;
 use crate::framing::Framing;
-use crate::front::{Opening, look};
+use crate::portion_parser::{Opening, look};
 use crate::long::Long;
 use crate::piece::Piece;
 use crate::source::{Filled, Source, SourceFault};

@@ -7,7 +7,7 @@ mod emit;
 mod form;
 mod framed;
 mod framing;
-mod front;
+mod portion_parser;
 mod listed;
 mod long;
 mod piece;

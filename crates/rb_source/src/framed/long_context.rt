@@ -13,7 +13,7 @@ ghost use Rattle.rb_source.specs.inner.Steps.{Appends, GivesNone, IsPartialSourc
 use crate::emit::emit;
 use crate::framed::FramedReader;
 use crate::framing::Framing;
-use crate::front::{find_line_feed, frame_length};
+use crate::portion_parser::{find_line_feed, frame_length};
 use crate::long::Long;
 use crate::piece::Piece;
 use std::io::Read;

@@ -4,7 +4,7 @@ use Rattle.std.proofs.lemmas.Bool.{eqb-true}
 use Rattle.memchr.specs.Find.{IsFirstByte, is_byte}
 use Rattle.rb_source.specs.Framing.{HasNoLineFeed, line_feed}
 use Rattle.rb_source.specs.inner.Look.{FindsLineFeed}
-use Rattle.rb_source.proofs.front.find_line_feed.Goals as goal
+use Rattle.rb_source.proofs.portion_parser.find_line_feed.Goals as goal
 
 -- there is no line feed among the first n bytes
 none_before : (bytes : List ℕ) (n : ℕ) → ((k : ℕ) → k < n → eqb (get_or bytes k 0) 10 ≡ true → ⊥) → HasNoLineFeed (take n bytes)
