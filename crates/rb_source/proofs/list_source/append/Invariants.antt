@@ -1,5 +1,5 @@
 use Rattle.std.proofs.Common.{◌≡◌, ◌-◌, ◌≤◌, ◌++◌, length, take, map}
-use Rattle.rb_source.proofs.listed.append.Given as goal
+use Rattle.rb_source.proofs.list_source.append.Given as goal
 
 -- the counted contexts were appended
 abbrev pub invariant-loop-count : goal.invariant-loop-count

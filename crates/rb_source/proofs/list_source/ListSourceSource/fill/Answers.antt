@@ -2,7 +2,7 @@ use Rattle.std.proofs.Common.{◌≡◌, ℕ, ◌-◌, List, ◌++◌, length, t
 use Rattle.std.proofs.lemmas.List.{length-drop, take_all, map-append}
 use Rattle.rb_source.specs.Given.{ListedContexts}
 use Rattle.rb_source.specs.Piece.{PieceContents}
-use Rattle.rb_source.proofs.listed.ListSourceSource.fill.Goals as goal
+use Rattle.rb_source.proofs.list_source.ListSourceSource.fill.Goals as goal
 
 -- the front of a list, and the rest of it
 splits : {A B : Type 0} (f : A → B) (n : ℕ) (xs : List A) → map f xs ≡ map f (take n xs) ++ map f (take (length xs - n) (drop n xs))
