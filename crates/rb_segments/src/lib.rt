@@ -15,7 +15,7 @@ mod fault;
 mod laws;
 mod memory_store;
 mod names;
-mod opening;
+mod restart;
 mod plan;
 mod ring_files;
 mod rolling;

@@ -7,7 +7,7 @@ use Rattle.rb_segments.specs.SegmentTape.{SegmentTape}
 use Rattle.rb_segments.specs.Restart.{EndsAt}
 use Rattle.rb_segments.specs.declared.stored.StoredSegment.{StoredSegment}
 use Rattle.rb_segments.proofs.Restarting.{resumes}
-use Rattle.rb_segments.proofs.opening.resume.Goals as goal
+use Rattle.rb_segments.proofs.restart.resume.Goals as goal
 
 pub returns-clause-resumed : goal.returns-clause-resumed
 returns-clause-resumed g c =

@@ -1,7 +1,7 @@
 use Rattle.std.proofs.Common.{subst}
 use Rattle.rb_tape.specs.LongestTape.{IsReadThrough}
 use Rattle.rb_segments.proofs.Restarting.{ends_whole}
-use Rattle.rb_segments.proofs.opening.whole_length.Goals as goal
+use Rattle.rb_segments.proofs.restart.whole_length.Goals as goal
 
 pub returns-in-Ok-default-None-clause-ends : goal.returns-in-Ok-default-None-clause-ends
 returns-in-Ok-default-None-clause-ends c =
