@@ -18,7 +18,7 @@ mod names;
 mod restart;
 mod plan;
 mod ring_files;
-mod rolling;
+mod rotation;
 mod segment_file;
 mod store;
 mod stored;

@@ -2,7 +2,7 @@
 
 use crate::fault::SegmentFault;
 use crate::plan::SegmentPlan;
-use crate::rolling::{end, tend};
+use crate::rotation::{end, tend};
 use crate::store::SegmentStore;
 use rb_io::{DeviceFault, Outgoing};
 use rb_tape::{Item, TapeWriter};

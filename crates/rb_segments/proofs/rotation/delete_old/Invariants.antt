@@ -2,7 +2,7 @@ use Rattle.std.proofs.Common.{◌≡◌}
 use Rattle.rb_segments.specs.Known.{HavePositions}
 use Rattle.rb_segments.specs.SegmentTape.{kept}
 use Rattle.rb_segments.specs.inner.Rolling.{DeletesOldest}
-use Rattle.rb_segments.proofs.rolling.delete_old.Given as goal
+use Rattle.rb_segments.proofs.rotation.delete_old.Given as goal
 
 abbrev pub invariant-oldest : goal.invariant-oldest
 invariant-oldest g l = record {

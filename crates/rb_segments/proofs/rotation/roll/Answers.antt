@@ -1,7 +1,7 @@
 use Rattle.std.proofs.Common.{sym, subst}
 use Rattle.rb_segments.specs.SegmentTape.{directory_at}
 use Rattle.rb_segments.specs.inner.Rolling.{KeepsRecords}
-use Rattle.rb_segments.proofs.rolling.roll.Goals as goal
+use Rattle.rb_segments.proofs.rotation.roll.Goals as goal
 
 pub returns-clause-keeps : goal.returns-clause-keeps
 returns-clause-keeps g c =

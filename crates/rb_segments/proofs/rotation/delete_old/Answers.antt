@@ -1,7 +1,7 @@
 use Rattle.std.proofs.Common.{◌<◌, ◌∙◌, refl, subst}
 use Rattle.rb_segments.specs.Known.{HavePositions}
 use Rattle.rb_segments.proofs.Directories.{first_is, kept_on, on_ok, one_deleted, positions_deleted}
-use Rattle.rb_segments.proofs.rolling.delete_old.Goals as goal
+use Rattle.rb_segments.proofs.rotation.delete_old.Goals as goal
 
 pub oldest-preserved : goal.oldest-preserved
 oldest-preserved g c =

@@ -1,7 +1,7 @@
 use Rattle.std.proofs.Common.{sym, subst}
 use Rattle.rb_segments.specs.Known.{IsOnlyCreated}
 use Rattle.rb_segments.proofs.Directories.{is_first_created}
-use Rattle.rb_segments.proofs.rolling.end.Goals as goal
+use Rattle.rb_segments.proofs.rotation.end.Goals as goal
 
 pub close-requires-clause-first : goal.close-requires-clause-first
 close-requires-clause-first g c =
