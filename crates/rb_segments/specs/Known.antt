@@ -2,7 +2,7 @@
 -- everything about one in memory (own).
 use Rattle.std.specs.Prelude.{ℕ, ◌≡◌, ⊤, List, [], ◌∷◌, ◌++◌, length, map, take, Option, None, Some}
 use Rattle.rb_segments.specs.Segments.{Segment}
-use Rattle.rb_segments.specs.declared.stored.StoredSegment.{StoredSegment}
+use Rattle.rb_segments.specs.declared.stored_segment.StoredSegment.{StoredSegment}
 
 -- the newest segment has this position and these bytes
 abbrev pub AddsSegment : Option (List Segment) → ℕ → Option (List ℕ) → Option (List Segment) → Type 0

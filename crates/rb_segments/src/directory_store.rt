@@ -3,7 +3,7 @@
 use crate::names::{segment_path, segment_position};
 use crate::segment_file::SegmentFile;
 use crate::store::SegmentStore;
-use crate::stored::StoredSegment;
+use crate::stored_segment::StoredSegment;
 use rb_io::DeviceFault;
 use std::alloc::Global;
 use std::fs::{File, OpenFile, OpenOptions};

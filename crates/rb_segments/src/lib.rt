@@ -21,7 +21,7 @@ mod ring_files;
 mod rotation;
 mod segment_file;
 mod store;
-mod stored;
+mod stored_segment;
 mod writer;
 
 pub use directory_store::DirectoryStore;
@@ -35,5 +35,5 @@ pub use ring_files::{
 };
 pub use segment_file::SegmentFile;
 pub use store::SegmentStore;
-pub use stored::StoredSegment;
+pub use stored_segment::StoredSegment;
 pub use writer::SegmentWriter;

@@ -5,7 +5,7 @@ ghost use Rattle.rb_segments.specs.Known.{stored};
 ghost use Rattle.rb_segments.specs.MemorySegments.{memory_segment};
 
 use crate::store::SegmentStore;
-use crate::stored::StoredSegment;
+use crate::stored_segment::StoredSegment;
 use rb_io::{DeviceFault, Outgoing};
 use std::alloc::{AllocError, Global};
 use std::collections::VecDeque;

@@ -9,7 +9,7 @@ ghost use Rattle.rb_segments.specs.Restart.{EndsAt, Resumes};
 use crate::fault::OpeningFault;
 use crate::plan::SegmentPlan;
 use crate::store::SegmentStore;
-use crate::stored::StoredSegment;
+use crate::stored_segment::StoredSegment;
 use crate::writer::SegmentWriter;
 use rb_history::is_start;
 use rb_io::Outgoing;

@@ -4,7 +4,7 @@ ghost use Rattle.std.specs.Prelude.{◌≡◌, [], ℕ, List, Option, None, Some
 ghost use Rattle.rb_segments.specs.Segments.{Segment};
 ghost use Rattle.rb_segments.specs.Known.{AddsSegment, ClosesFirst, Creates, IsFirstCreated, IsNewest, IsOldest, RemovesOldest, Reopens, stored};
 
-use crate::stored::StoredSegment;
+use crate::stored_segment::StoredSegment;
 use rb_io::{DeviceFault, Outgoing};
 use std::alloc::Global;
 

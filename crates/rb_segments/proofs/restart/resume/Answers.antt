@@ -5,7 +5,7 @@ use Rattle.rb_tape.specs.TapeOutput.{TapeOutput}
 use Rattle.rb_segments.specs.Known.{Reopens}
 use Rattle.rb_segments.specs.SegmentTape.{SegmentTape}
 use Rattle.rb_segments.specs.Restart.{EndsAt}
-use Rattle.rb_segments.specs.declared.stored.StoredSegment.{StoredSegment}
+use Rattle.rb_segments.specs.declared.stored_segment.StoredSegment.{StoredSegment}
 use Rattle.rb_segments.proofs.Restarting.{resumes}
 use Rattle.rb_segments.proofs.restart.resume.Goals as goal
 
