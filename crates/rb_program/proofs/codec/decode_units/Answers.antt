@@ -7,7 +7,7 @@ use Rattle.rb_program.specs.FirstDecodeFault.{HasBadLength, HasTooManyUnits, IsF
 use Rattle.rb_program.specs.inner.Decoded.{IsDecoded}
 use Rattle.rb_program.proofs.Kept.{counted}
 use Rattle.rb_program.proofs.FirstFaults.{decoded_more, fault_here, rest_of}
-use Rattle.rb_program.proofs.decoding.decode_units.Goals as goal
+use Rattle.rb_program.proofs.codec.decode_units.Goals as goal
 
 pub loop-units-preserved : goal.loop-units-preserved
 loop-units-preserved c =

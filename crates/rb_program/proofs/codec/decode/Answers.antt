@@ -1,6 +1,6 @@
 use Rattle.std.proofs.Common.{rules, Ok}
 use Rattle.rb_program.proofs.FirstFaults.{only_program, only_fault}
-use Rattle.rb_program.proofs.decoding.decode.Goals as goal
+use Rattle.rb_program.proofs.codec.decode.Goals as goal
 
 pub returns-in_err-units-clause-only_program : goal.returns-in_err-units-clause-only_program
 returns-in_err-units-clause-only_program c =

@@ -7,8 +7,8 @@ use Rattle.rb_program.specs.Program.{units_of, unit_count}
 use Rattle.rb_program.specs.DecodedUnits.{insns_in}
 use Rattle.rb_program.proofs.Kept.{insns_in-units_of}
 use Rattle.rb_program.proofs.FirstFaults.{encoded_more, encoded_second}
-use Rattle.rb_program.proofs.decoding.encode.Goals as goal
-use Rattle.rb_program.proofs.decoding.encode.Goals.{in-Some+in_ok-extend_from_slice, in_default}
+use Rattle.rb_program.proofs.codec.encode.Goals as goal
+use Rattle.rb_program.proofs.codec.encode.Goals.{in-Some+in_ok-extend_from_slice, in_default}
 
 pub loop-unit-preserved : goal.loop-unit-preserved
 loop-unit-preserved c =
