@@ -5,7 +5,7 @@ use Rattle.std.specs.Io.KnownBytes.{Appends, Keeps, append_known}
 use Rattle.std.proofs.KnownBytes.{append_known-moved}
 use Rattle.rb_io.specs.Gathered.{Gathered, HandsOn}
 use Rattle.rb_io.proofs.Room.{sent_and_left}
-use Rattle.rb_io.proofs.buffered.Buffered.hand_on.Goals as goal
+use Rattle.rb_io.proofs.buffered.Buffered.write_waiting.Goals as goal
 
 pub returns-clause-bytes : goal.returns-clause-bytes
 returns-clause-bytes g c =
