@@ -5,7 +5,7 @@ ghost use Rattle.rb_history.specs.Span as spans;
 ghost use Rattle.rb_history.specs.TapeBytes.{zeros};
 ghost use Rattle.rb_history.specs.RingModel.{IsRingSize};
 ghost use Rattle.rb_tape.specs.TapeReading.{item_read, HasItsLength};
-ghost use Rattle.rb_tape.specs.inner.FrontLook.{FindsAtFront, item_behind};
+ghost use Rattle.rb_tape.specs.inner.FrontLook.{FindsAtFront, item_after};
 
 use crate::fault::TapeKind;
 use crate::record::Record;
@@ -19,7 +19,7 @@ fn is_zero(bytes: &[u8]) -> bool
 
 // Returns the header of the whole record with which the bytes begin, `None` if the bytes are undecided yet, or the
 // first fault that they show. Takes time linear in the record.
-pub(crate) fn look(bytes: &[u8], size: u64, position: u64) -> Result<Option<Header>, TapeKind>
+pub(crate) fn parse_front(bytes: &[u8], size: u64, position: u64) -> Result<Option<Header>, TapeKind>
     requires size { IsRingSize size }
     requires position { position ≤ 2 ^ 62 }
     ensures finds { FindsAtFront size position bytes.now result }
@@ -61,7 +61,7 @@ pub(crate) fn look(bytes: &[u8], size: u64, position: u64) -> Result<Option<Head
 // Returns the record of this header, with which the bytes begin.
 pub(crate) fn record_at_front(bytes: &[u8], pos: u64, header: Header) -> Record<'_>
     requires { spans.span header.len ≤ length bytes.now }
-    ensures item { item_read result ≡ item_behind pos header (drop 8 bytes.now) }
+    ensures item { item_read result ≡ item_after pos header (drop 8 bytes.now) }
     ensures length { HasItsLength result }
 {
     let len = if header.discard {

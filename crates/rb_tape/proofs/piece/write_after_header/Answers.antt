@@ -3,7 +3,7 @@ use Rattle.rb_history.specs.TapeBytes.{item_bytes}
 use Rattle.rb_history.proofs.HeaderLaws.{length-item_bytes}
 use Rattle.rb_tape.specs.Items.{item_of}
 use Rattle.rb_tape.proofs.Pieces.{first-out, then-out}
-use Rattle.rb_tape.proofs.piece.write_behind_header.Goals as goal
+use Rattle.rb_tape.proofs.piece.write_after_header.Goals as goal
 
 pub returns-then-sent-end-clause-bytes : goal.returns-then-sent-end-clause-bytes
 returns-then-sent-end-clause-bytes g c = first-out (item_bytes c.args.size (item_of c.args.item.now)) _ _ c.args.from c.write_payload.result c.write_payload.ensures.bytes

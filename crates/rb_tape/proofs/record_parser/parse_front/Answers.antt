@@ -2,10 +2,10 @@ use Rattle.std.proofs.Common.{◌≡◌, drop, length, sym, ◌∙◌, arith}
 use Rattle.std.proofs.lemmas.Bool.{true≢false}
 use Rattle.std.proofs.lemmas.List.{length-drop}
 use Rattle.rb_history.specs.TapeBytes.{padding}
-use Rattle.rb_tape.specs.TapeFront.{StartsWithHeader, IsHeaderAt, HasDiscardedBytes, payload_behind, padding_behind}
+use Rattle.rb_tape.specs.TapeFront.{StartsWithHeader, IsHeaderAt, HasDiscardedBytes, payload_after, padding_after}
 use Rattle.rb_tape.proofs.TapeFronts.{begins_bytes, payload_part, padding_part, are_zeros, were_zeros}
-use Rattle.rb_tape.proofs.record_parser.look.Goals as goal
-use Rattle.rb_tape.proofs.record_parser.look.Goals.{else-header-2-via-then-header-2+else-not-is_zero, else-header-2-via-else-header-2}
+use Rattle.rb_tape.proofs.record_parser.parse_front.Goals as goal
+use Rattle.rb_tape.proofs.record_parser.parse_front.Goals.{else-header-2-via-then-header-2+else-not-is_zero, else-header-2-via-else-header-2}
 
 begins : (c : goal.Then-not-is_zero-2) → StartsWithHeader c.args.bytes.now c.in-Ok.header (drop 8 c.args.bytes.now)
 begins c = begins_bytes c.args.bytes.now c.in-Ok.header c.in-Ok.ensures.found.0.fields (c.in-Ok.ensures.found.1 ∙ c.copy_from_slice.ensures.after)
@@ -17,10 +17,10 @@ header_at c = record {
   fits = (omega arith, omega arith);
 }
 
-front_is : (c : goal.Then-not-is_zero-2) → c.split_at.result.0.now ≡ payload_behind c.in-Ok.header (drop 8 c.args.bytes.now)
+front_is : (c : goal.Then-not-is_zero-2) → c.split_at.result.0.now ≡ payload_after c.in-Ok.header (drop 8 c.args.bytes.now)
 front_is c = payload_part c.args.bytes.now c.split_at.result.0.now c.in-Ok.header (rw (← c.span-span.ensures.value) c.split_at.ensures.front)
 
-back_is : (c : goal.Then-not-is_zero-2) → c.split_at.result.1.now ≡ padding_behind c.in-Ok.header (drop 8 c.args.bytes.now)
+back_is : (c : goal.Then-not-is_zero-2) → c.split_at.result.1.now ≡ padding_after c.in-Ok.header (drop 8 c.args.bytes.now)
 back_is c = padding_part c.args.bytes.now c.split_at.result.1.now c.in-Ok.header (rw (← c.span-span.ensures.value) c.split_at.ensures.back)
 
 back_length : (c : goal.Then-not-is_zero-2) → length c.split_at.result.1.now ≡ padding c.in-Ok.header.len
