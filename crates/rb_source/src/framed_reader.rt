@@ -18,7 +18,7 @@ use crate::counts::ContextCounts;
 use crate::emit::emit;
 use crate::form::Form;
 use crate::framing::Framing;
-use crate::portion_parser::{Opening, look};
+use crate::portion_parser::{Opening, parse_portion};
 use crate::long::Long;
 use crate::piece::Piece;
 use crate::source::{Filled, Source, SourceFault};
@@ -115,7 +115,7 @@ impl<R: Read> FramedReader<R> {
         ensures left { OnFront result self.old self.new piece.new }
     {
         let bytes = self.window.bytes();
-        match look(self.framing, self.form.len, bytes) {
+        match parse_portion(self.framing, self.form.len, bytes) {
             Opening::Partial => false,
             Opening::End => {
                 self.over = true;
@@ -150,7 +150,7 @@ impl<R: Read> FramedReader<R> {
     }
 
     // Takes the portions after a long context, if the piece has room.
-    fn take_behind(&mut self, piece: &mut Piece)
+    fn take_after_long(&mut self, piece: &mut Piece)
         requires open { self.old.over ≡ false }
         requires short { self.old.long ≡ None }
         requires size { piece.old.ctx_len ≡ form_len self.old.form }
@@ -174,15 +174,15 @@ impl<R: Read> FramedReader<R> {
         ensures partial { piece.new.contexts ≡ [] → self.new.over ≡ false → IsPartialSource self.new }
     {
         match self.long {
-            None => self.take_behind(piece),
+            None => self.take_after_long(piece),
             Some(Long::Frame { total, missing }) => {
                 if self.pass_frame(total, missing, piece) {
-                    self.take_behind(piece);
+                    self.take_after_long(piece);
                 }
             }
             Some(Long::Line { total }) => {
                 if self.pass_line(total, piece) {
-                    self.take_behind(piece);
+                    self.take_after_long(piece);
                 }
             }
         }

@@ -43,7 +43,7 @@ pub(crate) fn frame_length(bytes: &[u8]) -> u32
     u32::from_le_bytes([bytes[0], bytes[1], bytes[2], bytes[3]])
 }
 
-fn look_for_frame(bytes: &[u8]) -> Opening
+fn parse_frame(bytes: &[u8]) -> Opening
     ensures finds { FindsFront Frames 0 bytes.now result }
 {
     if bytes.len() < 4 {
@@ -67,7 +67,7 @@ fn look_for_frame(bytes: &[u8]) -> Opening
     })
 }
 
-fn look_for_fixed(len: u32, bytes: &[u8]) -> Opening
+fn parse_fixed(len: u32, bytes: &[u8]) -> Opening
     requires { 0 < len }
     ensures finds { FindsFront Fixed len bytes.now result }
 {
@@ -89,7 +89,7 @@ pub(crate) fn find_line_feed(bytes: &[u8]) -> Option<usize>
     memchr(b'\n', bytes)
 }
 
-fn look_for_line(bytes: &[u8]) -> Opening
+fn parse_line(bytes: &[u8]) -> Opening
     ensures finds { FindsFront Lines 0 bytes.now result }
 {
     match find_line_feed(bytes) {
@@ -103,13 +103,13 @@ fn look_for_line(bytes: &[u8]) -> Opening
 }
 
 /// Returns what the bytes begin with.
-pub(crate) fn look(framing: Framing, len: u32, bytes: &[u8]) -> Opening
+pub(crate) fn parse_portion(framing: Framing, len: u32, bytes: &[u8]) -> Opening
     requires { framing ≡ Fixed → 0 < len }
     ensures finds { FindsFront framing len bytes.now result }
 {
     match framing {
-        Framing::Frames => look_for_frame(bytes),
-        Framing::Fixed => look_for_fixed(len, bytes),
-        Framing::Lines => look_for_line(bytes),
+        Framing::Frames => parse_frame(bytes),
+        Framing::Fixed => parse_fixed(len, bytes),
+        Framing::Lines => parse_line(bytes),
     }
 }

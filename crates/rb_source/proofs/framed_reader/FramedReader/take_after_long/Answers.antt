@@ -2,7 +2,7 @@ use Rattle.std.proofs.Common.{◌≡◌, ◌≤◌, ◌<◌, ℕ, List, Bool, tr
 use Rattle.rb_source.specs.Piece.{room_for}
 use Rattle.std.proofs.lemmas.Bool.{leb-true}
 use Rattle.rb_source.proofs.Steps.{gives_none, no_step}
-use Rattle.rb_source.proofs.framed_reader.FramedReader.take_behind.Goals as goal
+use Rattle.rb_source.proofs.framed_reader.FramedReader.take_after_long.Goals as goal
 
 pub returns-then-is_full-clause-gave : goal.returns-then-is_full-clause-gave
 returns-then-is_full-clause-gave g c = gives_none g.R.Read.remaining c.args.self.now c.args.self.now c.args.piece.now (no_step g.R.Read.remaining c.args.self.now)
