@@ -2,7 +2,7 @@ use Rattle.std.proofs.Common.{sym, ◌∙◌, ap, subst}
 use Rattle.std.specs.Option.{option_copied}
 use Rattle.rb_program.specs.inner.Reach.{Marks}
 use Rattle.rb_program.proofs.Searching.{looked_at, nothing_there}
-use Rattle.rb_program.proofs.reach.look_at.Goals as goal
+use Rattle.rb_program.proofs.reach.visit.Goals as goal
 
 pub returns-in_ok-mark-2-clause-search : goal.returns-in_ok-mark-2-clause-search
 returns-in_ok-mark-2-clause-search c =
