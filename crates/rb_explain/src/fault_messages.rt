@@ -1,7 +1,7 @@
 //! The messages for faults.
 
 ghost use Rattle.std.specs.Prelude.{◌≡◌, ◌++◌, [], IfOk, OnOk, codes, string_bytes};
-ghost use Rattle.rb_explain.specs.Explanations.{IsPlainText, number_text, said_text};
+ghost use Rattle.rb_explain.specs.Explanations.{IsPlainText, number_text, message_text};
 ghost use Rattle.rb_explain.specs.Objects as objects;
 
 use crate::objects::push_fault_object;
@@ -70,7 +70,7 @@ pub(crate) fn named_advice(alloc: Global, name: &str, advice: &str) -> Result<St
 }
 
 /// Appends the message for a fault whose advice begins with its name.
-pub(crate) fn push_said(
+pub(crate) fn push_message(
     text: &mut String,
     form: LineForm,
     layer: &str,
@@ -78,7 +78,7 @@ pub(crate) fn push_said(
     unit: u32,
     advice: &str,
 ) -> Result<(), AllocError>
-    ensures added { OnOk result (string_bytes text.new ≡ string_bytes text.old ++ said_text form [] layer.now name.now unit advice.now) }
+    ensures added { OnOk result (string_bytes text.new ≡ string_bytes text.old ++ message_text form [] layer.now name.now unit advice.now) }
 {
     match form {
         LineForm::Words => push_whole_line(text, advice),
@@ -94,7 +94,7 @@ fn push_number(text: &mut String, rule: Rule) -> Result<(), AllocError>
 }
 
 /// Appends the message for a broken rule.
-pub(crate) fn push_rule_said(
+pub(crate) fn push_rule_message(
     alloc: Global,
     text: &mut String,
     form: LineForm,
@@ -102,7 +102,7 @@ pub(crate) fn push_rule_said(
     rule: Rule,
     advice: &str,
 ) -> Result<(), AllocError>
-    ensures added { OnOk result (string_bytes text.new ≡ string_bytes text.old ++ said_text form (number_text rule) (codes "verify") (objects.rule_name rule) unit advice.now) }
+    ensures added { OnOk result (string_bytes text.new ≡ string_bytes text.old ++ message_text form (number_text rule) (codes "verify") (objects.rule_name rule) unit advice.now) }
 {
     match form {
         LineForm::Words => {

@@ -10,7 +10,7 @@ ghost use Rattle.rb_explain.specs.Explanations.{ExplainsBytes, Explains, IsNoHex
 use crate::advice::{decode_advice, rule_advice, shape_advice};
 use crate::explanation::{Explanation, Reason};
 use crate::listing::listing_with_cost;
-use crate::fault_messages::{decode_name, named_advice, push_rule_said, push_said, shape_name};
+use crate::fault_messages::{decode_name, named_advice, push_rule_message, push_message, shape_name};
 use crate::windows::{decode_again, push_window, units_text};
 use rb_json::LineForm;
 use rb_program::{
@@ -158,7 +158,7 @@ fn explain_decode(
     let mut text = front_of(alloc, form, bytes, fault)?;
     let name = decode_name(fault.kind);
     let advice = named_advice(alloc, name, decode_advice(fault.kind))?;
-    push_said(&mut text, form, "decode", name, fault.unit, &advice)?;
+    push_message(&mut text, form, "decode", name, fault.unit, &advice)?;
     Ok(Explanation {
         text,
         reason: Some(Reason::Decode(fault)),
@@ -186,7 +186,7 @@ fn explain_shape(
     push_window(alloc, &mut text, form, &program, fault.unit)?;
     let name = shape_name(fault.kind);
     let advice = named_advice(alloc, name, shape_advice(fault.kind))?;
-    push_said(&mut text, form, "shape", name, fault.unit, &advice)?;
+    push_message(&mut text, form, "shape", name, fault.unit, &advice)?;
     Ok(Explanation {
         text,
         reason: Some(Reason::Shape(fault)),
@@ -235,7 +235,7 @@ fn explain_rule(
     let mut text = String::new(alloc);
     push_window(alloc, &mut text, form, &program, unit)?;
     let advice = rule_advice(rule);
-    push_rule_said(alloc, &mut text, form, unit, rule, advice)?;
+    push_rule_message(alloc, &mut text, form, unit, rule, advice)?;
     Ok(Explanation {
         text,
         reason: Some(Reason::Rule { unit, rule }),
