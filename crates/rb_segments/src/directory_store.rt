@@ -39,7 +39,7 @@ impl<'a, R: Files> DirectoryStore<'a, R> {
     }
 
     // Converts the result of a system call, and keeps its error.
-    fn noted<T>(&mut self, answer: io::Result<T>) -> Result<T, DeviceFault> {
+    fn keep_error<T>(&mut self, answer: io::Result<T>) -> Result<T, DeviceFault> {
         match answer {
             Ok(value) => Ok(value),
             Err(error) => {
@@ -141,12 +141,12 @@ impl<'a, R: Files> SegmentStore<SegmentFile<R::File>> for DirectoryStore<'a, R> 
 
     fn create(&mut self, position: u64) -> Result<SegmentFile<R::File>, DeviceFault> {
         let created = self.create_file(position);
-        self.noted(created)
+        self.keep_error(created)
     }
 
     fn sync(&mut self, file: &SegmentFile<R::File>) -> Result<(), DeviceFault> {
         let synced = file.sync();
-        self.noted(synced)
+        self.keep_error(synced)
     }
 
     fn close(&mut self, _position: u64, _file: &SegmentFile<R::File>) -> Result<(), DeviceFault> {
@@ -155,21 +155,21 @@ impl<'a, R: Files> SegmentStore<SegmentFile<R::File>> for DirectoryStore<'a, R> 
 
     fn delete_oldest(&mut self, position: u64) -> Result<(), DeviceFault> {
         let deleted = self.delete_file(position);
-        self.noted(deleted)
+        self.keep_error(deleted)
     }
 
     fn list(&mut self, alloc: Global) -> Result<Vec<StoredSegment>, DeviceFault> {
         let listed = self.list_files(alloc);
-        self.noted(listed)
+        self.keep_error(listed)
     }
 
     fn read_newest(&mut self, alloc: Global, position: u64) -> Result<Vec<u8>, DeviceFault> {
         let read = self.read_file(alloc, position);
-        self.noted(read)
+        self.keep_error(read)
     }
 
     fn reopen(&mut self, position: u64, length: u64) -> Result<SegmentFile<R::File>, DeviceFault> {
         let reopened = self.reopen_file(position, length);
-        self.noted(reopened)
+        self.keep_error(reopened)
     }
 }

@@ -67,7 +67,7 @@ pub fn ring_numbers<R: Files>(
     ring: &str,
 ) -> Result<Option<SegmentedRing>, DirectoryFault> {
     let path = ring_path(alloc, folder, ring, "ring").map_err(Error::from)?;
-    let Some(text) = read_if_there(rt, alloc, path.as_str())? else {
+    let Some(text) = read_if_exists(rt, alloc, path.as_str())? else {
         return Ok(None);
     };
     match parse_numbers(text.as_str()) {
@@ -124,7 +124,7 @@ pub fn marked_end<R: Files>(
     ring: &str,
 ) -> io::Result<Option<u64>> {
     let path = ring_path(alloc, folder, ring, "end")?;
-    let Some(text) = read_if_there(rt, alloc, path.as_str())? else {
+    let Some(text) = read_if_exists(rt, alloc, path.as_str())? else {
         return Ok(None);
     };
     Ok(
@@ -154,7 +154,7 @@ fn put_file<R: Files>(
 }
 
 // Returns the text of a file, or `None` if there is none.
-fn read_if_there<R: Files>(rt: &R, alloc: Global, path: &str) -> io::Result<Option<String>> {
+fn read_if_exists<R: Files>(rt: &R, alloc: Global, path: &str) -> io::Result<Option<String>> {
     let mut file = match File::open(rt, path) {
         Ok(file) => file,
         Err(error) if error.kind() == ErrorKind::NotFound => return Ok(None),

@@ -15,7 +15,7 @@ use rb_tape::TapeWriter;
 use std::collections::VecDeque;
 
 /// Rolls the open segment if it is full, and deletes the oldest segments beyond the plan's limit.
-pub(crate) fn tend<S: SegmentStore<F>, F: Outgoing + Drop>(
+pub(crate) fn roll_and_delete<S: SegmentStore<F>, F: Outgoing + Drop>(
     store: &mut S,
     tape: &mut TapeWriter<F>,
     closed: &mut VecDeque<u64>,
@@ -70,13 +70,13 @@ fn roll<S: SegmentStore<F>, F: Outgoing + Drop>(
     if position.saturating_sub(*opened) < plan.segment || !is_start(position) {
         return Ok(());
     }
-    turn(store, tape, closed, *opened, size)?;
+    start_next(store, tape, closed, *opened, size)?;
     *opened = position;
     Ok(())
 }
 
 // Closes the open segment, which is already synced, and creates the next one.
-fn turn<S: SegmentStore<F>, F: Outgoing + Drop>(
+fn start_next<S: SegmentStore<F>, F: Outgoing + Drop>(
     store: &mut S,
     tape: &mut TapeWriter<F>,
     closed: &mut VecDeque<u64>,

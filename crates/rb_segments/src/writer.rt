@@ -2,7 +2,7 @@
 
 use crate::fault::SegmentFault;
 use crate::plan::SegmentPlan;
-use crate::rotation::{end, tend};
+use crate::rotation::{end, roll_and_delete};
 use crate::store::SegmentStore;
 use rb_io::{DeviceFault, Outgoing};
 use rb_tape::{Item, TapeWriter};
@@ -117,7 +117,7 @@ impl<S: SegmentStore<F>, F: Outgoing + Drop> SegmentWriter<S, F> {
             self.fault = Some(SegmentFault::Write);
             return;
         }
-        self.fault = tend(
+        self.fault = roll_and_delete(
             &mut self.store,
             &mut self.tape,
             &mut self.closed,

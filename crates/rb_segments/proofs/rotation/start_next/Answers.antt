@@ -3,7 +3,7 @@ use Rattle.std.specs.Prelude.{Some, IfSome}
 use Rattle.rb_tape.specs.TapeOutput.{TapeOutput}
 use Rattle.rb_segments.specs.Known.{AddsSegment, IsOnlyCreated}
 use Rattle.rb_segments.proofs.Directories.{first_of_two, keeps_turned, next_created, on_ok}
-use Rattle.rb_segments.proofs.rotation.turn.Goals as goal
+use Rattle.rb_segments.proofs.rotation.start_next.Goals as goal
 
 pub returns-clause-keeps : goal.returns-clause-keeps
 returns-clause-keeps g c =

@@ -1,6 +1,6 @@
 use Rattle.rb_segments.specs.SegmentTape.{directory_at}
 use Rattle.rb_segments.proofs.Directories.{keeps_both, keeps_deleted}
-use Rattle.rb_segments.proofs.rotation.tend.Goals as goal
+use Rattle.rb_segments.proofs.rotation.roll_and_delete.Goals as goal
 
 pub returns-clause-keeps : goal.returns-clause-keeps
 returns-clause-keeps g c =
