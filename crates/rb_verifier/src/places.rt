@@ -76,7 +76,7 @@ fn are_numbers(values: &[Abs]) -> bool
 
 impl Places {
     /// Returns places that all hold data. Allocates nothing.
-    pub(crate) fn data(alloc: Global) -> Places
+    pub(crate) fn without_pointers(alloc: Global) -> Places
         ensures { result ≡ all_data }
     {
         Places {
@@ -98,7 +98,7 @@ impl Places {
         ensures memory { IsErr result → MayKeepPointer self.now }
     {
         if self.have_data() {
-            return Ok(Places::data(*self.items.allocator()));
+            return Ok(Places::without_pointers(*self.items.allocator()));
         }
         let items = Vec::from_slice(*self.items.allocator(), self.items.as_slice())?;
         Ok(Places { items })
@@ -176,7 +176,7 @@ impl Places {
         ensures memory { IsErr result → MayKeepPointer self.now }
     {
         if self.have_data() {
-            return Ok(Places::data(*self.items.allocator()));
+            return Ok(Places::without_pointers(*self.items.allocator()));
         }
         let mut items = Vec::with_capacity(*self.items.allocator(), self.count())?;
         for i in 0..self.count() {
@@ -192,7 +192,7 @@ impl Places {
         ensures memory { IsErr result → MayKeepPointer self.now }
     {
         if self.have_data() {
-            return Ok(Places::data(*self.items.allocator()));
+            return Ok(Places::without_pointers(*self.items.allocator()));
         }
         let mut items = Vec::with_capacity(*self.items.allocator(), self.count())?;
         for i in 0..self.count() {
@@ -208,7 +208,7 @@ impl Places {
         ensures memory { IsErr result → ¬ ((self.now ≡ all_data) × (other.now ≡ all_data)) }
     {
         if self.have_data() && other.have_data() {
-            return Ok(Places::data(*self.items.allocator()));
+            return Ok(Places::without_pointers(*self.items.allocator()));
         }
         let count = self.count().max(other.count());
         let mut items = Vec::with_capacity(*self.items.allocator(), count)?;

@@ -20,7 +20,7 @@ returns-clause-stored c =
 
 pub returns-then-have_data-clause-stored : goal.returns-then-have_data-clause-stored
 returns-then-have_data-clause-stored c =
-    c.data.ensures ∙ data_listed (with_data c.args.at c.args.len (known_in c.args.self.now)) (λ place. with_data-data c.args.at c.args.len (known_in c.args.self.now) place (known-data c.args.self.now (c.have_data.ensures.all c.if-have_data.true) place))
+    c.without_pointers.ensures ∙ data_listed (with_data c.args.at c.args.len (known_in c.args.self.now)) (λ place. with_data-data c.args.at c.args.len (known_in c.args.self.now) place (known-data c.args.self.now (c.have_data.ensures.all c.if-have_data.true) place))
 
 pub invariant_of-result : goal.invariant_of-result
 invariant_of-result c = kept_built c.loop-i.items.items c.loop-i.i c.loop-i.invariant.count (omega (arith, c.loop-i.invariant.count, c.count.ensures.few)) c.loop-i.invariant.values
