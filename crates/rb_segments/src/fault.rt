@@ -37,7 +37,7 @@ pub enum OpeningFault {
     Device,
     /// The name of the newest segment, or the end of its last complete record, is not a position at which a tape may
     /// start.
-    #[error("no tape may start at the newest segment {0}, or at its end")]
+    #[error("a tape cannot start at {0}, the position or the end of the newest segment")]
     Position(u64),
     /// Out of memory.
     #[error("out of memory")]

@@ -28,7 +28,7 @@ pub enum DirectoryFault {
     #[error("another host writes to this folder")]
     Locked,
     /// The folder has a ring of this name with this other size.
-    #[error("the ring of this folder has a size of {0}")]
+    #[error("the ring of this folder has another size: {0}")]
     Size(u64),
     /// The ring's file does not have the format that hosts write.
     #[error("the file of the ring is damaged")]
