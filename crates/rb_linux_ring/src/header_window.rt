@@ -5,13 +5,13 @@ ghost use Rattle.rb_history.specs.TapeBytes as tapes;
 ghost use Rattle.rb_linux_ring.specs.LinuxHeaders.{IsLinuxPlace, IsLinuxRingSize};
 ghost use Rattle.rb_linux_ring.specs.LinuxWindows.{IsLinuxWindow};
 
-use rb_history::page_of;
+use rb_history::{MAX_RECORD_LEN, page_of};
 
 /// The size of a page in bytes (Linux Documentation/bpf/ringbuf.rst).
 const PAGE: u64 = 4096;
 
-/// The maximal length of a record in bytes that fits in the 30 bits of a header.
-const MAX_LEN: u64 = (1 << 30) - 1;
+/// The maximal length of a record in bytes that a header can describe.
+const MAX_LEN: u64 = MAX_RECORD_LEN as u64;
 
 /// The headers of submitted records from a position up to the end of its page. They all name the same page, so a reader
 /// recognizes them with one subtraction and one comparison.
