@@ -14,39 +14,39 @@ use Rattle.rb_verifier.specs.HelperChecks.{helper_of}
 use Rattle.rb_verifier.specs.AbstractStates.{value_in}
 use Rattle.rb_verifier.specs.Annotation.{Annotation}
 use Rattle.rb_history.specs.Span.{span}
-use Rattle.rb_cost.specs.declared.requested_record.Asked.{Asked}
+use Rattle.rb_cost.specs.declared.requested_record.RequestedRecord.{RequestedRecord}
 
 -- a record of a ring, if the ring and the length in bytes are known
-abbrev pub record_of : Abs → Abs → Option Asked
+abbrev pub record_of : Abs → Abs → Option RequestedRecord
 record_of (Ring ring) (Known len) = Some (record { ring = ring; len = len })
 record_of ring len = None
 
 -- reserve(ring, size, flags) and output(ring, data, size, flags) request a record; the other helpers request none
-abbrev pub asked_of_helper : Option Helper → AbsState → Option Asked
+abbrev pub asked_of_helper : Option Helper → AbsState → Option RequestedRecord
 asked_of_helper (Some Reserve) s = record_of (value_in s 1) (value_in s 2)
 asked_of_helper (Some Output) s = record_of (value_in s 1) (value_in s 3)
 asked_of_helper helper s = None
 
 -- a CALL requests what its helper does
-abbrev pub asked_by : Insn → AbsState → Option Asked
+abbrev pub asked_by : Insn → AbsState → Option RequestedRecord
 asked_by (Call helper) s = asked_of_helper (helper_of helper) s
 asked_by insn s = None
 
-abbrev pub asked_in : Option Insn → AbsState → Option Asked
+abbrev pub asked_in : Option Insn → AbsState → Option RequestedRecord
 asked_in None s = None
 asked_in (Some insn) s = asked_by insn s
 
 -- the record that the instruction at a unit requests, by an annotation's state there
-abbrev pub asked_at : List Insn → Annotation → ℕ → Option Asked
+abbrev pub asked_at : List Insn → Annotation → ℕ → Option RequestedRecord
 asked_at program a unit = asked_in (slot_at program unit) (a unit)
 
 -- whether the record is one of this ring
-abbrev pub is_on : ℕ → Option Asked → Bool
+abbrev pub is_on : ℕ → Option RequestedRecord → Bool
 is_on ring None = false
 is_on ring (Some asked) = asked.ring == ring
 
 -- the number of bytes of this ring that the record occupies: its span
-abbrev pub bytes_on : ℕ → Option Asked → ℕ
+abbrev pub bytes_on : ℕ → Option RequestedRecord → ℕ
 bytes_on ring None = 0
 bytes_on ring (Some asked) = if asked.ring == ring then span asked.len else 0
 

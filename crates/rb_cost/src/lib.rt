@@ -14,14 +14,14 @@
 //! ```
 #![tactic(auto)]
 
-mod requested_record;
 mod cost;
 mod cost_laws;
 mod cost_lines;
-mod program_cost;
-mod path_quantity;
 mod holdings;
 mod pass;
+mod path_quantity;
+mod program_cost;
+mod requested_record;
 mod ring_size;
 mod turn_size;
 

@@ -2,7 +2,7 @@
 
 /// A quantity that is counted along a path.
 #[derive(Clone, Copy, Debug, PartialEq, Eq)]
-pub(crate) enum Counted {
+pub(crate) enum Quantity {
     /// The instructions.
     Steps,
     /// The helper calls.

@@ -10,9 +10,9 @@ ghost use Rattle.rb_cost.specs.Paths.{IsMost, IsPath};
 ghost use Rattle.rb_cost.specs.inner.Pass.{IsSmall, total, weight_at};
 
 use crate::cost::{Cost, RingCost};
-use crate::path_quantity::Counted;
 use crate::holdings::most_held;
 use crate::pass::most_on_path;
+use crate::path_quantity::Quantity;
 use rb_program::Program;
 use rb_verifier::{AbsState, Verified};
 use std::alloc::{AllocError, Global};
@@ -29,13 +29,13 @@ fn most_bytes(
     requires count { length states.now ≡ unit_count program.now }
     requires well_shaped { IsWellShaped program.now }
     requires small { (unit : ℕ) → IsSmall (asked_at program.now (state_at states.now) unit) }
-    requires records { IsMost (IsPath program.now) (total (weight_at (Counted.Records ring) program.now (state_at states.now))) records }
-    ensures { IfOk result (λ bytes. IsMost (IsPath program.now) (total (weight_at (Counted.Bytes ring) program.now (state_at states.now))) bytes) }
+    requires records { IsMost (IsPath program.now) (total (weight_at (Quantity.Records ring) program.now (state_at states.now))) records }
+    ensures { IfOk result (λ bytes. IsMost (IsPath program.now) (total (weight_at (Quantity.Bytes ring) program.now (state_at states.now))) bytes) }
 {
     if records == 0 {
         return Ok(0);
     }
-    most_on_path(alloc, program, states, Counted::Bytes(ring))
+    most_on_path(alloc, program, states, Quantity::Bytes(ring))
 }
 
 /// Returns the cost of a program at one ring.
@@ -51,7 +51,7 @@ fn ring_cost(
     ensures { IfOk result (IsRingCost program.now (state_at states.now) ring) }
 {
     program.facts();
-    let records = most_on_path(alloc, program, states, Counted::Records(ring))?;
+    let records = most_on_path(alloc, program, states, Quantity::Records(ring))?;
     let bytes = most_bytes(alloc, program, states, ring, records)?;
     let held = most_held(program, states, ring);
     Ok(RingCost {
@@ -79,8 +79,8 @@ fn cost_under(
         costs.push(ring_cost(alloc, program, states, ring)?)?;
     }
     Ok(Cost {
-        steps: most_on_path(alloc, program, states, Counted::Steps)?,
-        calls: most_on_path(alloc, program, states, Counted::Calls)?,
+        steps: most_on_path(alloc, program, states, Quantity::Steps)?,
+        calls: most_on_path(alloc, program, states, Quantity::Calls)?,
         rings: costs,
     })
 }

@@ -4,14 +4,14 @@ ghost use Rattle.std.specs.Prelude.{◌≡◌, ◌≤◌, ◌^◌, Some};
 ghost use Rattle.rb_cost.specs.Asking.{asked_by};
 ghost use Rattle.rb_cost.specs.inner.Pass.{IsSmall, weight_in};
 
-use crate::path_quantity::Counted;
+use crate::path_quantity::Quantity;
 use rb_history::span;
 use rb_insn::Insn;
 use rb_verifier::{Abs, AbsState, Helper};
 
 /// A record that a CALL requests from a ring.
 #[derive(Clone, Copy, Debug, PartialEq, Eq)]
-pub(crate) struct Asked {
+pub(crate) struct RequestedRecord {
     /// The ring's number.
     pub(crate) ring: u32,
     /// The record's length in bytes.
@@ -20,7 +20,7 @@ pub(crate) struct Asked {
 
 /// Returns the record that an instruction requests, given the abstract state before it, or `None` if it is neither a
 /// reserve nor an output.
-fn asked_by(insn: &Insn, state: &AbsState) -> Option<Asked>
+fn asked_by(insn: &Insn, state: &AbsState) -> Option<RequestedRecord>
     ensures { result ≡ asked_by insn.now state.now }
 {
     let Insn::Call { helper } = *insn else {
@@ -33,25 +33,25 @@ fn asked_by(insn: &Insn, state: &AbsState) -> Option<Asked>
         _ => return None,
     };
     match (ring, len) {
-        (Abs::Ring(ring), Abs::Known(len)) => Some(Asked { ring, len }),
+        (Abs::Ring(ring), Abs::Known(len)) => Some(RequestedRecord { ring, len }),
         _ => None,
     }
 }
 
 /// Returns the instruction's contribution to what is counted along a path.
-pub(crate) fn weight(counted: Counted, insn: &Insn, state: &AbsState) -> u64
+pub(crate) fn weight(counted: Quantity, insn: &Insn, state: &AbsState) -> u64
     requires { IsSmall (asked_by insn.now state.now) }
     ensures value { result ≡ weight_in counted (Some insn.now) state.now }
     ensures bound { result ≤ 2 ^ 27 }
 {
     match counted {
-        Counted::Steps => 1,
-        Counted::Calls => u64::from(matches!(insn, Insn::Call { .. })),
-        Counted::Records(ring) => match asked_by(insn, state) {
+        Quantity::Steps => 1,
+        Quantity::Calls => u64::from(matches!(insn, Insn::Call { .. })),
+        Quantity::Records(ring) => match asked_by(insn, state) {
             Some(asked) if asked.ring == ring => 1,
             _ => 0,
         },
-        Counted::Bytes(ring) => match asked_by(insn, state) {
+        Quantity::Bytes(ring) => match asked_by(insn, state) {
             Some(asked) if asked.ring == ring => span(asked.len as u32),
             _ => 0,
         },

@@ -1,6 +1,6 @@
 use Rattle.std.proofs.Common.{subst}
 use Rattle.rb_verifier.specs.Annotation.{state_at}
-use Rattle.rb_cost.specs.declared.path_quantity.Counted.TheVariants.{Records}
+use Rattle.rb_cost.specs.declared.path_quantity.Quantity.TheVariants.{Records}
 use Rattle.rb_cost.specs.Paths.{IsPath, IsMost}
 use Rattle.rb_cost.specs.inner.Pass.{total, weight_at}
 use Rattle.rb_cost.proofs.Unasked.{unasked}
