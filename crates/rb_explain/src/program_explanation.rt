@@ -9,8 +9,10 @@ ghost use Rattle.rb_explain.specs.Explanations.{ExplainsBytes, Explains, IsNoHex
 
 use crate::advice::{decode_advice, rule_advice, shape_advice};
 use crate::explanation::{Explanation, Reason};
+use crate::fault_messages::{
+    decode_name, named_advice, push_message, push_rule_message, shape_name,
+};
 use crate::listing::listing_with_cost;
-use crate::fault_messages::{decode_name, named_advice, push_rule_message, push_message, shape_name};
 use crate::windows::{decode_again, push_window, units_text};
 use rb_json::LineForm;
 use rb_program::{

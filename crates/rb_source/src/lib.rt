@@ -7,10 +7,10 @@ mod emit;
 mod form;
 mod framed_reader;
 mod framing;
-mod portion_parser;
 mod list_source;
 mod long;
 mod piece;
+mod portion_parser;
 mod source;
 mod window;
 

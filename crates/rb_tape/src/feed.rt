@@ -3,8 +3,8 @@
 ghost use Rattle.std.specs.Prelude.{◌≡◌, ◌≤◌, drop, length};
 
 use crate::fault::{TapeFault, TapeKind};
-use crate::record_parser::{parse_front, record_at_front};
 use crate::record::Record;
+use crate::record_parser::{parse_front, record_at_front};
 use rb_history::{SetupFault, is_size, is_start, span};
 use std::alloc::Global;
 use std::marker::Model;

@@ -19,7 +19,11 @@ fn is_zero(bytes: &[u8]) -> bool
 
 // Returns the header of the whole record with which the bytes begin, `None` if the bytes are undecided yet, or the
 // first fault that they show. Takes time linear in the record.
-pub(crate) fn parse_front(bytes: &[u8], size: u64, position: u64) -> Result<Option<Header>, TapeKind>
+pub(crate) fn parse_front(
+    bytes: &[u8],
+    size: u64,
+    position: u64,
+) -> Result<Option<Header>, TapeKind>
     requires size { IsRingSize size }
     requires position { position ≤ 2 ^ 62 }
     ensures finds { FindsAtFront size position bytes.now result }

@@ -1,8 +1,8 @@
 //! A reader of a tape that is in memory as a whole.
 
 use crate::fault::{TapeFault, TapeKind};
-use crate::record_parser::{parse_front, record_at_front};
 use crate::record::Record;
+use crate::record_parser::{parse_front, record_at_front};
 use rb_history::{SetupFault, is_size, is_start, span};
 use std::marker::Model;
 

@@ -13,9 +13,9 @@ ghost use Rattle.rb_source.specs.inner.Steps.{Appends, GivesNone, IsPartialSourc
 use crate::emit::emit;
 use crate::framed_reader::FramedReader;
 use crate::framing::Framing;
-use crate::portion_parser::{find_line_feed, frame_length};
 use crate::long::Long;
 use crate::piece::Piece;
+use crate::portion_parser::{find_line_feed, frame_length};
 use std::io::Read;
 
 // Replaces the kept bytes with these.
