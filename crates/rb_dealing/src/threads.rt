@@ -8,8 +8,8 @@ ghost use Rattle.rb_dealing.specs.inner.Lanes.{LaneFinished, LaneRan};
 ghost use Rattle.rb_dealing.specs.Queues.{AreEmptyQueues, AreFeedsOf};
 ghost use Rattle.rb_dealing.specs.declared.lane.Lane.{Lane};
 
-use crate::dealing::{DealEnd, Dealing, Dealt, Late, deal};
 use crate::lane::{Lane, LaneFeed, wake_all};
+use crate::reader::{DealEnd, Dealing, Dealt, Late, deal};
 use crate::work::{Work, runs_compose};
 use rb_source::Source;
 use std::alloc::Global;

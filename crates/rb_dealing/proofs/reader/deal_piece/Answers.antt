@@ -1,7 +1,7 @@
 use Rattle.std.proofs.Common.{◌∷◌, [], Some, arith, subst}
 use Rattle.rb_dealing.specs.inner.Feeds.{Fed}
 use Rattle.rb_dealing.proofs.Feeds.{deals_piece, fed_on}
-use Rattle.rb_dealing.proofs.dealing.deal_piece.Goals as goal
+use Rattle.rb_dealing.proofs.reader.deal_piece.Goals as goal
 
 pub returns-in-Ok-clause-dealt : goal.returns-in-Ok-clause-dealt
 returns-in-Ok-clause-dealt g c =

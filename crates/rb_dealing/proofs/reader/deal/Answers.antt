@@ -1,6 +1,6 @@
 use Rattle.std.proofs.Common.{[], arith}
 use Rattle.rb_dealing.proofs.Feeds.{deals_none, given_none, given_piece}
-use Rattle.rb_dealing.proofs.dealing.deal.Goals as goal
+use Rattle.rb_dealing.proofs.reader.deal.Goals as goal
 
 pub loop-init : goal.loop-init
 loop-init g c = ([], g.met.I.Source.gives_nothing c.args.source.now, deals_none c.args.feeds.now c.args.dealing.now c.requires.fresh.0 c.requires.fresh.1)

@@ -1,7 +1,7 @@
 use Rattle.std.proofs.Common.{◌≡◌, ◌+◌, [], length}
 use Rattle.rb_dealing.specs.Dealt.{saturated}
 use Rattle.rb_dealing.specs.inner.Feeds.{Fed}
-use Rattle.rb_dealing.proofs.dealing.deal_piece.Given as goal
+use Rattle.rb_dealing.proofs.reader.deal_piece.Given as goal
 
 abbrev pub invariant-loop : goal.invariant-loop
 invariant-loop g l =
