@@ -15,7 +15,7 @@ ghost use Rattle.rb_source.specs.declared.window.ReadOutcome.TheVariants.{End as
 ghost use Rattle.rb_source.specs.inner.Steps.{Appends, GivesNone, IsPartialSource, OnFront};
 
 use crate::counts::ContextCounts;
-use crate::emit::emit;
+use crate::delivery::emit;
 use crate::form::Form;
 use crate::framing::Framing;
 use crate::long::Long;

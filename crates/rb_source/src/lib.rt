@@ -3,7 +3,7 @@
 
 mod agreement;
 mod counts;
-mod emit;
+mod delivery;
 mod form;
 mod framed_reader;
 mod framing;

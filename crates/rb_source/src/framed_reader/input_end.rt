@@ -10,7 +10,7 @@ ghost use Rattle.rb_source.specs.Stream.{FailsAs, IsOver};
 ghost use Rattle.rb_source.specs.declared.long.Long.TheVariants.{Line};
 ghost use Rattle.rb_source.specs.inner.Steps.{Appends, IsPartialSource};
 
-use crate::emit::emit;
+use crate::delivery::emit;
 use crate::framed_reader::FramedReader;
 use crate::framing::Framing;
 use crate::long::Long;

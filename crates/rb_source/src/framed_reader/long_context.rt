@@ -10,7 +10,7 @@ ghost use Rattle.rb_source.specs.declared.long.Long.TheVariants.{Frame, Line};
 ghost use Rattle.rb_source.specs.inner.Counted.{counted_by, given_by};
 ghost use Rattle.rb_source.specs.inner.Steps.{Appends, GivesNone, IsPartialSource, OnPass};
 
-use crate::emit::emit;
+use crate::delivery::emit;
 use crate::framed_reader::FramedReader;
 use crate::framing::Framing;
 use crate::long::Long;
