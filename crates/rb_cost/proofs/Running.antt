@@ -36,7 +36,7 @@ use Rattle.rb_semantics.proofs.Checks.{ring_passed}
 use Rattle.rb_cost.specs.declared.requested_record.RequestedRecord.{RequestedRecord}
 use Rattle.rb_cost.specs.declared.cost.Cost.{Cost}
 use Rattle.rb_cost.specs.Paths.{IsPath}
-use Rattle.rb_cost.specs.Asking.{record_of, asked_of_helper, asked_by, asked_in, asked_at, is_on, bytes_on, is_of_ring, held_span}
+use Rattle.rb_cost.specs.Requests.{record_of, asked_of_helper, asked_by, asked_in, asked_at, is_on, bytes_on, is_of_ring, held_span}
 use Rattle.rb_cost.specs.Cost.{IsRingCost, IsCostUnder}
 use Rattle.rb_cost.specs.Runs.{Moment, LeadsTo, AreMoments, call_of, call_at, granted_to, granted_at, asked_by_call, requested_at, ring_by, ring_of, held_record, ring_cost_at, IsAskedWithin, IsGrantedWithin, IsHeldWithin, IsRunWithin, RunsStayWithin}
 use Rattle.rb_cost.proofs.KeptReferences.{NewHolds, NewOf, edge_keeps}

@@ -8,7 +8,7 @@ use Rattle.rb_history.specs.Span.{span}
 use Rattle.rb_cost.specs.declared.requested_record.RequestedRecord.{RequestedRecord}
 use Rattle.rb_cost.specs.declared.path_quantity.Quantity.TheVariants.{Records, Bytes}
 use Rattle.rb_cost.specs.Paths.{IsPath, IsMost}
-use Rattle.rb_cost.specs.Asking.{asked_at, is_on, bytes_on}
+use Rattle.rb_cost.specs.Requests.{asked_at, is_on, bytes_on}
 use Rattle.rb_cost.specs.inner.Pass.{total, weight_at}
 
 none_on : (ring : ℕ) (asked : Option RequestedRecord) → cond (is_on ring asked) 1 0 ≤ 0 → bytes_on ring asked ≡ 0

@@ -10,7 +10,7 @@ use Rattle.rb_semantics.specs.Instructions.{StepEffect, Goes, Asks, next_step}
 use Rattle.rb_cost.specs.declared.requested_record.RequestedRecord.{RequestedRecord}
 use Rattle.rb_cost.specs.declared.cost.Cost.{Cost}
 use Rattle.rb_cost.specs.declared.cost.RingCost.{RingCost}
-use Rattle.rb_cost.specs.Asking.{is_on, bytes_on}
+use Rattle.rb_cost.specs.Requests.{is_on, bytes_on}
 use Rattle.rb_cost.specs.Cost.{IsCost, no_ring_cost}
 
 -- A moment of a run: the state before an instruction, and the answer to the instruction's call, if it made one and was

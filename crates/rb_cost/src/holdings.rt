@@ -5,7 +5,7 @@ ghost use Rattle.rb_program.specs.Program.{unit_count};
 ghost use Rattle.rb_program.specs.Shape.{IsInstructionStart};
 ghost use Rattle.rb_verifier.specs.Annotation.{state_at};
 ghost use Rattle.rb_cost.specs.Paths.{IsMost};
-ghost use Rattle.rb_cost.specs.Asking.{is_of_ring, held_span};
+ghost use Rattle.rb_cost.specs.Requests.{is_of_ring, held_span};
 
 use rb_history::span;
 use rb_program::Program;

@@ -6,7 +6,7 @@ ghost use Rattle.rb_program.specs.Program.{unit_count, slot_at};
 ghost use Rattle.rb_program.specs.Shape.{IsWellShaped};
 ghost use Rattle.rb_verifier.specs.Annotation.{state_at};
 ghost use Rattle.rb_cost.specs.Paths.{IsPath, IsMost};
-ghost use Rattle.rb_cost.specs.Asking.{asked_at};
+ghost use Rattle.rb_cost.specs.Requests.{asked_at};
 ghost use Rattle.rb_cost.specs.inner.Pass.{IsSmall, Raises, Progress, weight_at, total};
 
 use crate::path_quantity::Quantity;

@@ -4,7 +4,7 @@ ghost use Rattle.std.specs.Prelude.{◌≡◌, ◌<◌, ◌≤◌, ◌^◌, ℕ,
 ghost use Rattle.rb_program.specs.Program.{unit_count};
 ghost use Rattle.rb_program.specs.Shape.{IsWellShaped};
 ghost use Rattle.rb_verifier.specs.Annotation.{state_at};
-ghost use Rattle.rb_cost.specs.Asking.{asked_at};
+ghost use Rattle.rb_cost.specs.Requests.{asked_at};
 ghost use Rattle.rb_cost.specs.Cost.{IsCost, IsCostUnder, IsRingCost};
 ghost use Rattle.rb_cost.specs.Paths.{IsMost, IsPath};
 ghost use Rattle.rb_cost.specs.inner.Pass.{IsSmall, total, weight_at};

@@ -1,7 +1,7 @@
 //! The record that an instruction requests from a ring.
 
 ghost use Rattle.std.specs.Prelude.{◌≡◌, ◌≤◌, ◌^◌, Some};
-ghost use Rattle.rb_cost.specs.Asking.{asked_by};
+ghost use Rattle.rb_cost.specs.Requests.{asked_by};
 ghost use Rattle.rb_cost.specs.inner.Pass.{IsSmall, weight_in};
 
 use crate::path_quantity::Quantity;

@@ -11,7 +11,7 @@ use Rattle.rb_cost.specs.declared.requested_record.RequestedRecord.{RequestedRec
 use Rattle.rb_cost.specs.declared.path_quantity.Quantity.{Quantity}
 use Rattle.rb_cost.specs.declared.path_quantity.Quantity.TheVariants.{Steps, Calls, Records, Bytes}
 use Rattle.rb_cost.specs.Paths.{IsPath}
-use Rattle.rb_cost.specs.Asking.{asked_in, is_on, bytes_on, is_of_ring, held_span}
+use Rattle.rb_cost.specs.Requests.{asked_in, is_on, bytes_on, is_of_ring, held_span}
 
 -- the contribution of a unit of a path
 abbrev pub weight_in : Quantity → Option Insn → AbsState → ℕ

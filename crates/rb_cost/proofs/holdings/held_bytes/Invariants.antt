@@ -1,6 +1,6 @@
 use Rattle.std.proofs.Common.{◌≡◌, ◌≤◌, ◌*◌, ◌^◌, take}
 use Rattle.std.specs.Prelude.{sum_by}
-use Rattle.rb_cost.specs.Asking.{held_span}
+use Rattle.rb_cost.specs.Requests.{held_span}
 use Rattle.rb_cost.proofs.holdings.held_bytes.Given as goal
 
 abbrev pub invariant-loop-reference : goal.invariant-loop-reference

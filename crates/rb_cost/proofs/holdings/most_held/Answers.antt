@@ -5,7 +5,7 @@ use Rattle.std.specs.Prelude.{count_by, sum_by}
 use Rattle.std.proofs.lemmas.List.{get_or_default}
 use Rattle.rb_verifier.specs.AbstractStates.{entry_state}
 use Rattle.rb_verifier.specs.Annotation.{state_at}
-use Rattle.rb_cost.specs.Asking.{is_of_ring, held_span}
+use Rattle.rb_cost.specs.Requests.{is_of_ring, held_span}
 use Rattle.rb_cost.specs.inner.Pass.{IsMostBefore, records_held, bytes_held}
 use Rattle.rb_cost.proofs.Holding.{none_here, one_more, most_of_units}
 use Rattle.rb_cost.proofs.holdings.most_held.Goals as goal

@@ -5,7 +5,7 @@ use Rattle.rb_program.proofs.ShapeLaws.{edges_forward}
 use Rattle.rb_verifier.specs.Annotation.{state_at}
 use Rattle.rb_verifier.specs.Subject.{limits_of}
 use Rattle.std.specs.Prelude.{IfOk}
-use Rattle.rb_cost.specs.Asking.{asked_at}
+use Rattle.rb_cost.specs.Requests.{asked_at}
 use Rattle.rb_cost.specs.Cost.{IsCostUnder}
 use Rattle.rb_cost.specs.inner.Pass.{IsSmall}
 use Rattle.rb_cost.proofs.Sizes.{asked_small}
