@@ -5,9 +5,9 @@
 //! continues a tape after a restart. A `SegmentStore` keeps the segments: a `DirectoryStore` as files, a `MemoryStore`
 //! in memory.
 //!
-//! Proved: the segments of a store that are known, preceded by the deleted ones, hold exactly the records that were
-//! put, unless a fault ended the tape; a restart loses no complete record; and concatenated segments are the tape of
-//! their records (`joined_segments_are_the_tape`).
+//! Proved, for a store whose segments are known to contracts: the segments, preceded by the deleted ones, hold exactly
+//! the records that were put, unless a fault ended the tape. A restart loses no complete record. Concatenated segments
+//! are the tape of their records (`joined_segments_are_the_tape`).
 #![tactic(auto)]
 
 mod directory_store;
