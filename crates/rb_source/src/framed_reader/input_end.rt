@@ -20,7 +20,7 @@ use std::io::Read;
 
 impl<R: Read> FramedReader<R> {
     // Returns the number of contexts that arrived completely.
-    pub(crate) fn came(&self) -> u64
+    pub(crate) fn arrived(&self) -> u64
         ensures value { result ≡ saturated (self.now.counts.given + self.now.counts.skipped) }
     {
         self.counts.given.saturating_add(self.counts.skipped)
@@ -55,7 +55,7 @@ impl<R: Read> FramedReader<R> {
                 }
                 Ok(Filled::More)
             }
-            Framing::Frames | Framing::Fixed => Err(SourceFault::EndsInside(self.came())),
+            Framing::Frames | Framing::Fixed => Err(SourceFault::EndsInside(self.arrived())),
         }
     }
 
@@ -97,7 +97,7 @@ impl<R: Read> FramedReader<R> {
     {
         match self.long {
             None => self.end_short(piece),
-            Some(Long::Frame { .. }) => Err(SourceFault::EndsInside(self.came())),
+            Some(Long::Frame { .. }) => Err(SourceFault::EndsInside(self.arrived())),
             Some(Long::Line { total }) => self.end_line(total, piece),
         }
     }

@@ -55,5 +55,5 @@ returns-in-Frames g c =
       count = c.requires.empty;
       end = tt;
       over = λ o. absurd (true≢false (sym o ∙ c.requires.open));
-      fault = (c.requires.end, c.came.ensures.value, λ part h. short_is_cut c.args.self.now c.requires.short some c.requires.partial part h);
+      fault = (c.requires.end, c.arrived.ensures.value, λ part h. short_is_cut c.args.self.now c.requires.short some c.requires.partial part h);
     }
