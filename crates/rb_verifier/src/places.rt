@@ -122,7 +122,7 @@ impl Places {
     }
 
     /// Returns the abstract value of place `here` after `place` is set to `value`.
-    fn once_kept(&self, here: u64, place: u64, value: Abs) -> Abs
+    fn value_after_set(&self, here: u64, place: u64, value: Abs) -> Abs
         requires { IsPlaceValue value }
         ensures known { result ≡ with_place place value (known_in self.now) here }
         ensures value { IsPlaceValue result }
@@ -131,7 +131,7 @@ impl Places {
     }
 
     /// Returns the abstract value of place `here` after data is stored to the `len` bytes from byte `at` on.
-    fn once_stored(&self, here: u64, at: u64, len: u64) -> Abs
+    fn value_after_data(&self, here: u64, at: u64, len: u64) -> Abs
         requires { at + len ≤ 512 }
         ensures known { result ≡ with_data at len (known_in self.now) here }
         ensures value { IsPlaceValue result }
@@ -164,7 +164,7 @@ impl Places {
         let mut items = Vec::with_capacity(*self.items.allocator(), count)?;
         for i in 0..count {
             let here = LAST_PLACE - i as u64;
-            items.push(self.once_kept(here, place, value))?;
+            items.push(self.value_after_set(here, place, value))?;
         }
         Ok(Places { items })
     }
@@ -181,7 +181,7 @@ impl Places {
         let mut items = Vec::with_capacity(*self.items.allocator(), self.count())?;
         for i in 0..self.count() {
             let here = LAST_PLACE - i as u64;
-            items.push(self.once_stored(here, at, len))?;
+            items.push(self.value_after_data(here, at, len))?;
         }
         Ok(Places { items })
     }
