@@ -8,6 +8,7 @@ ghost use Rattle.rb_history.specs.ManyTakes.{pushed};
 ghost use Rattle.rb_history.specs.declared.answers.Taken.TheVariants.{BusyFront, Empty};
 ghost use Rattle.rb_history.specs.declared.entries.Entry.{Entry};
 ghost use Rattle.rb_chapter_ring.specs.Chapters.{IsChapterRoom};
+ghost use Rattle.rb_history.specs.inner.RecordRows.{IsBusyAt};
 ghost use Rattle.rb_chapter_ring.specs.CountedFrom.{query_answer_from};
 ghost use Rattle.rb_chapter_ring.specs.ChapterCalls.{AllTakenByChapter, HandsOut, HasBusyFrontByChapter, IsSameChapter, OutputsByChapter, TakesByChapter, consumer_by_chapter, producer_by_chapter};
 ghost use Rattle.rb_chapter_ring.specs.ChapterRing.{StandsForChapter};
@@ -20,11 +21,12 @@ ghost use Rattle.rb_chapter_ring.specs.Hands.{AreAllOut, IsFree, IsLowestFree, f
 ghost use Rattle.rb_chapter_ring.specs.RecordEnds.{EndsFromHand};
 ghost use Rattle.rb_chapter_ring.specs.HandRing.{hand_ring, HasHands, HasInHand, GrantsToHand, SubmitsFromHand, DiscardsFromHand};
 
-use crate::Chapter;
+use crate::chapter_state::ChapterState;
 use crate::faults::{OpenFault, ReserveFault};
-use crate::hand_state::HandState;
+use crate::hand_table::{free_table, no_ordinals, set_hand, set_ordinal};
 use crate::record_end::RecordEnd;
 use crate::reservation::Reservation;
+use crate::{Chapter, OutRecord, lowest_free};
 use rb_history::{Counts, Notice, Taken};
 use rb_lend::Sheet;
 use std::alloc::Global;
@@ -35,7 +37,10 @@ use std::marker::Model;
 #[derive(Drop)]
 pub struct RingState {
     tag: u64,
-    state: HandState,
+    ring: ChapterState,
+    hands: Vec<[Option<OutRecord>; 4]>,
+    // The ordinal of the record in each hand: its index is its ordinal minus the number of records that were taken.
+    ordinals: Vec<[u64; 4]>,
 }
 
 impl Model for RingState {
@@ -44,13 +49,17 @@ impl Model for RingState {
     ghost use Rattle.rb_history.specs.contracts.entries.Entry as entry;
     ghost use Rattle.rb_history.specs.contracts.tally.Tally as tally_row;
     ghost use Rattle.rb_chapter_ring.specs.contracts.out_record.OutRecord as out_row;
+    ghost use Rattle.rb_chapter_ring.specs.HandRing.{hand_ring};
     ghost use Rattle.rb_chapter_ring.specs.TaggedRing.{TaggedRing};
+    ghost use Rattle.rb_chapter_ring.specs.inner.Ordinals.{IsHandState};
 
     ghost Value = { TaggedRing };
 
     ghost coded = { Prim.hlevel (codes, contents_code, entry.the_row.coded, tally_row.the_row.coded, out_row.the_row.coded) };
 
-    ghost view = { λ s. record { tag = s.tag; state = s.state } };
+    ghost view = { λ s. record { tag = s.tag; state = hand_ring s.ring s.hands.items } };
+
+    ghost invariant = { λ s. IsHandState (hand_ring s.ring s.hands.items) s.ordinals.items };
 }
 
 impl RingState {
@@ -74,8 +83,19 @@ impl RingState {
         ensures workers { IsErrOf result OpenFault.Workers ↔ (IsRingSize size × IsStartPosition start × ¬ IsWorkerCount workers) }
         ensures chapter { IsErrOf result OpenFault.Chapter ↔ (IsRingSize size × IsStartPosition start × IsWorkerCount workers × ¬ IsChapterRoom room) }
     {
-        let state = HandState::new(alloc, size, start, workers, room)?;
-        Ok(RingState { tag, state })
+        let ring = ChapterState::new(alloc, size, start, workers, room)?;
+        let Ok(hands) = free_table(alloc, workers) else {
+            return Err(OpenFault::Memory);
+        };
+        let Ok(ordinals) = no_ordinals(alloc, workers) else {
+            return Err(OpenFault::Memory);
+        };
+        Ok(RingState {
+            tag,
+            ring,
+            hands,
+            ordinals,
+        })
     }
 
     #[inline(always)]
@@ -84,6 +104,16 @@ impl RingState {
         ensures tag { result ≡ self.now.tag }
     {
         self.tag
+    }
+
+    #[inline(always)]
+    /// Sets the tag that reservations name from then on. A reservation may be committed whatever its tag is; a caller
+    /// with several rings compares it.
+    pub fn set_tag(&mut self, tag: u64)
+        ensures tag { self.new.tag ≡ tag }
+        ensures same_state { self.new.state ≡ self.old.state }
+    {
+        self.tag = tag;
     }
 
     #[inline(always)]
@@ -96,7 +126,7 @@ impl RingState {
         ensures bounded { IsChapterRingWithin self.now.state.ring }
         ensures hands { HasHands self.now.state }
     {
-        self.state.facts();
+        self.ring.facts();
     }
 
     #[inline(always)]
@@ -104,7 +134,7 @@ impl RingState {
     pub fn chapter(&self) -> &Chapter
         ensures chapter { result.now ≡ self.now.state.ring.chapter }
     {
-        self.state.chapter()
+        self.ring.chapter()
     }
 
     /// Returns the answer to a query (bpf-helpers(7), bpf_ringbuf_query): the number of bytes between the two positions
@@ -113,7 +143,7 @@ impl RingState {
     pub fn query(&self, what: u64) -> u64
         ensures answer { result ≡ query_answer_from self.now.state.ring.chapter.opening self.now.state.ring.chapter.entries what }
     {
-        self.state.query(what)
+        self.ring.query(what)
     }
 
     /// Returns the six totals since the ring was opened. The refusal count saturates at `u64::MAX`. Takes constant
@@ -121,7 +151,7 @@ impl RingState {
     pub fn counts(&self) -> Counts
         ensures counts { result ≡ told_counts self.now.state.ring }
     {
-        self.state.counts()
+        self.ring.counts()
     }
 
     #[inline(always)]
@@ -131,7 +161,7 @@ impl RingState {
         ensures free { IfSome result (λ hand. IsLowestFree (hands_of self.now.state.hands worker) hand) }
         ensures all_out { IfNone result (AreAllOut (hands_of self.now.state.hands worker)) }
     {
-        self.state.free_hand(worker)
+        lowest_free(&self.hands[worker as usize])
     }
 
     #[inline(always)]
@@ -140,7 +170,8 @@ impl RingState {
     pub fn is_out(&self, reservation: &Reservation) -> bool
         ensures exact { IsTrue result ↔ HasInHand self.now.state reservation.now.hand reservation.now.granted }
     {
-        self.state.is_out(reservation)
+        let worker = reservation.worker() as usize;
+        worker < self.hands.len() && reservation.is_in(&self.hands[worker])
     }
 
     #[inline(always)]
@@ -174,7 +205,22 @@ impl RingState {
         ensures known_flags { IfErr result (λ e. e.0 ≢ Flags) }
         ensures handed_back { IfErr result (λ e. e.1 ≡ sheet) }
     {
-        self.state.reserve(self.tag, worker, hand, n, sheet)
+        let ring = &self.ring;
+        ring.facts();
+        let ordinal = ring.next_ordinal();
+        match self.ring.reserve(self.tag, worker, hand, n, sheet) {
+            Err(refused) => Err(refused),
+            Ok(reservation) => {
+                let out = OutRecord {
+                    pos: reservation.pos(),
+                    serial: reservation.serial(),
+                    len: n,
+                };
+                set_hand(&mut self.hands, worker, hand, Some(out));
+                set_ordinal(&mut self.ordinals, worker, hand, ordinal);
+                Ok(reservation)
+            }
+        }
     }
 
     #[inline(always)]
@@ -189,7 +235,7 @@ impl RingState {
         ensures submitted { SubmitsFromHand self.old.state self.new.state reservation.hand reservation.granted }
         ensures notice { (result ≡ Due) ↔ IsDue (consumer_by_chapter self.old.state.ring) reservation.granted.pos flags }
     {
-        self.state.settle(reservation, RecordEnd::Submit, flags)
+        self.settle(reservation, RecordEnd::Submit, flags)
     }
 
     #[inline(always)]
@@ -204,7 +250,7 @@ impl RingState {
         ensures discarded { DiscardsFromHand self.old.state self.new.state reservation.hand reservation.granted }
         ensures notice { (result ≡ Due) ↔ IsDue (consumer_by_chapter self.old.state.ring) reservation.granted.pos flags }
     {
-        self.state.settle(reservation, RecordEnd::Discard, flags)
+        self.settle(reservation, RecordEnd::Discard, flags)
     }
 
     #[inline(always)]
@@ -219,7 +265,26 @@ impl RingState {
         ensures ended { EndsFromHand end reservation.hand reservation.granted self.old.state self.new.state }
         ensures notice { (result ≡ Due) ↔ IsDue (consumer_by_chapter self.old.state.ring) reservation.granted.pos flags }
     {
-        self.state.settle(reservation, end, flags)
+        let ring = &self.ring;
+        ring.facts();
+        let worker = reservation.worker();
+        let hand = reservation.hand();
+        let index = self.index_in(&reservation);
+        let notice = self.ring.settle(index, reservation, end, flags);
+        set_hand(&mut self.hands, worker, hand, None);
+        notice
+    }
+
+    #[inline(always)]
+    // Returns the index of the reservation's record, which is in its hand, among the untaken ones.
+    fn index_in(&self, reservation: &Reservation) -> usize
+        requires out { HasInHand self.now.state reservation.now.hand reservation.now.granted }
+        ensures here { IsBusyAt self.now.state.ring.shown result reservation.now.granted.pos (length reservation.now.granted.bytes) }
+    {
+        let ring = &self.ring;
+        ring.facts();
+        let ordinal = self.ordinals[reservation.worker() as usize][reservation.hand() as usize];
+        (ordinal - ring.taken()) as usize
     }
 
     #[inline(always)]
@@ -245,7 +310,9 @@ impl RingState {
         ensures same_hands { self.new.state.hands ≡ self.old.state.hands }
         ensures handed_back { IfErr result (λ e. e.1 ≡ sheet) }
     {
-        self.state.output(worker, sheet, flags)
+        let ring = &self.ring;
+        ring.facts();
+        self.ring.output(worker, sheet, flags)
     }
 
     #[inline(always)]
@@ -262,7 +329,9 @@ impl RingState {
         ensures empty { (result ≡ Empty) ↔ AllTakenByChapter self.old.state.ring }
         ensures same_hands { self.new.state.hands ≡ self.old.state.hands }
     {
-        self.state.take()
+        let ring = &self.ring;
+        ring.facts();
+        self.ring.take()
     }
 
     /// Takes up to `n` records, as `n` calls of `take`, and pushes each that was returned or skipped onto `out`.
@@ -281,7 +350,9 @@ impl RingState {
         ensures count { result ≡ length (pushed out.old.items out.new.items) }
         ensures capacity { vec_capacity out.new ≡ vec_capacity out.old }
     {
-        self.state.take_many(n, out)
+        let ring = &self.ring;
+        ring.facts();
+        self.ring.take_many(n, out)
     }
 
     /// Hands out the chapter as it is. The ring continues in `empty`, which becomes the next chapter; its opening is
@@ -297,6 +368,8 @@ impl RingState {
         ensures handed_back { IfErr result (λ back. back ≡ empty) }
         ensures unchanged { OnErr result (self.new ≡ self.old) }
     {
-        self.state.hand_out(empty)
+        let ring = &self.ring;
+        ring.facts();
+        self.ring.hand_out(empty)
     }
 }

@@ -2,7 +2,7 @@ use Rattle.std.proofs.Common.{refl}
 use Rattle.rb_chapter_ring.specs.HandRing.{hand_ring}
 use Rattle.rb_history.specs.ManyTakes.{pushed}
 use Rattle.rb_chapter_ring.proofs.StateSteps.{many-hold}
-use Rattle.rb_chapter_ring.proofs.hand_state.HandState.take_many.Goals as goal
+use Rattle.rb_chapter_ring.proofs.ring.RingState.take_many.Goals as goal
 
 pub invariant_of-self : goal.invariant_of-self
 invariant_of-self c =

@@ -1,7 +1,7 @@
 use Rattle.std.proofs.Common.{refl}
 use Rattle.rb_chapter_ring.specs.HandRing.{hand_ring}
 use Rattle.rb_chapter_ring.proofs.StateSteps.{handing-holds}
-use Rattle.rb_chapter_ring.proofs.hand_state.HandState.hand_out.Goals as goal
+use Rattle.rb_chapter_ring.proofs.ring.RingState.hand_out.Goals as goal
 
 pub invariant_of-self : goal.invariant_of-self
 invariant_of-self c =
