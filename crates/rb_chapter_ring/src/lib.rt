@@ -69,7 +69,6 @@
 
 mod chapter;
 mod chapter_laws;
-mod chapter_state;
 mod counting;
 mod entries;
 mod entry_words;
@@ -78,7 +77,6 @@ mod finding;
 mod hand_laws;
 mod hand_table;
 mod hands;
-mod many_takes;
 mod out_record;
 mod record_end;
 mod reservation;

@@ -1,46 +1,50 @@
-//! A ring for one thread.
+//! A ring for one thread: its parts, and what is read of them.
 
-ghost use Rattle.std.specs.Prelude.{List, ◌≡◌, ◌≢◌, ◌<◌, ◌≤◌, ◌+◌, ◌++◌, ◌↔◌, IfOk, IfErr, IfSome, IfNone, IsErrOf, IsOk, IsTrue, OnOk, OnErr, length, replicate, vec_len, vec_capacity};
+ghost use Rattle.std.specs.Prelude.{List, ◌≡◌, ◌<◌, ◌+◌, ◌↔◌, IfOk, IfSome, IfNone, IsErrOf, IsTrue, length};
 ghost use Rattle.rb_history.specs.RingModel.{IsRingSize, IsStartPosition, IsWorkerCount};
-ghost use Rattle.rb_history.specs.declared.answers.Notice.TheVariants.{Due};
-ghost use Rattle.rb_history.specs.NoticesAndQueries.{IsDue};
-ghost use Rattle.rb_history.specs.ManyTakes.{pushed};
-ghost use Rattle.rb_history.specs.declared.answers.Taken.TheVariants.{BusyFront, Empty};
 ghost use Rattle.rb_history.specs.declared.entries.Entry.{Entry};
-ghost use Rattle.rb_chapter_ring.specs.Chapters.{IsChapterRoom};
-ghost use Rattle.rb_history.specs.inner.RecordRows.{IsBusyAt};
+ghost use Rattle.rb_chapter_ring.specs.Chapters.{IsChapterRoom, closing_of};
 ghost use Rattle.rb_chapter_ring.specs.CountedFrom.{query_answer_from};
-ghost use Rattle.rb_chapter_ring.specs.ChapterCalls.{AllTakenByChapter, HandsOut, HasBusyFrontByChapter, IsSameChapter, OutputsByChapter, TakesByChapter, consumer_by_chapter, producer_by_chapter};
 ghost use Rattle.rb_chapter_ring.specs.ChapterRing.{StandsForChapter};
 ghost use Rattle.rb_chapter_ring.specs.WholeHistory.{IsKept};
-ghost use Rattle.rb_chapter_ring.specs.declared.faults.ReserveFault.TheVariants.{Flags};
-ghost use Rattle.rb_chapter_ring.specs.ManyTakes.{TakesManyInChapter};
-ghost use Rattle.rb_chapter_ring.specs.OpenedRing.{IsChapterRingWithin, MayGoOnIn, opened_ring, told_counts};
-ghost use Rattle.rb_chapter_ring.specs.RingFaults.{RefusesInChapter};
-ghost use Rattle.rb_chapter_ring.specs.Hands.{AreAllOut, IsFree, IsLowestFree, free_book, hands_of};
-ghost use Rattle.rb_chapter_ring.specs.RecordEnds.{EndsFromHand};
-ghost use Rattle.rb_chapter_ring.specs.HandRing.{hand_ring, HasHands, HasInHand, GrantsToHand, SubmitsFromHand, DiscardsFromHand};
+ghost use Rattle.rb_chapter_ring.specs.OpenedRing.{IsChapterRingWithin, opened_ring, told_counts};
+ghost use Rattle.rb_chapter_ring.specs.Hands.{AreAllOut, IsLowestFree, free_book, hands_of};
+ghost use Rattle.rb_chapter_ring.specs.HandRing.{hand_ring, HasHands, HasInHand};
+ghost use Rattle.rb_chapter_ring.specs.inner.Ordinals.{taken_before};
 
-use crate::chapter_state::ChapterState;
-use crate::faults::{OpenFault, ReserveFault};
-use crate::hand_table::{free_table, no_ordinals, set_hand, set_ordinal};
-use crate::record_end::RecordEnd;
+mod committing;
+mod granting;
+mod handing_out;
+mod taking;
+
+use crate::faults::OpenFault;
+use crate::hand_table::{free_table, no_ordinals};
 use crate::reservation::Reservation;
+use crate::setup::{check_setup, empty_sheets, slots_for};
 use crate::{Chapter, OutRecord, lowest_free};
-use rb_history::{Counts, Notice, Taken};
+use rb_history::{AVAIL_DATA, CONS_POS, Counts, PROD_POS, RING_SIZE};
 use rb_lend::Sheet;
 use std::alloc::Global;
 use std::marker::Model;
 
 /// A ring of records for one thread, whose reservations name its tag. Contracts see its tag, its chapter, the bytes of
 /// its waiting records, what it shows, and its book of hands.
+///
+/// The untaken records are those of the chapter, in the order of their grants. A record's ordinal is the number of
+/// records that were granted before it; its index is its ordinal minus the number of records that were taken.
 #[derive(Drop)]
 pub struct RingState {
     tag: u64,
-    ring: ChapterState,
+    chapter: Chapter,
+    // The bytes of each waiting record, in the slot of its ordinal. There are as many slots as there can be records at
+    // once, and they are used as a circular buffer.
+    sheets: Vec<Sheet>,
+    // The record in each hand of each worker, and its ordinal.
     hands: Vec<[Option<OutRecord>; 4]>,
-    // The ordinal of the record in each hand: its index is its ordinal minus the number of records that were taken.
     ordinals: Vec<[u64; 4]>,
+    // The refusals, saturating at `u64::MAX`, and the discards. The other counts follow from the chapter.
+    refused: u64,
+    discarded: u64,
 }
 
 impl Model for RingState {
@@ -49,17 +53,16 @@ impl Model for RingState {
     ghost use Rattle.rb_history.specs.contracts.entries.Entry as entry;
     ghost use Rattle.rb_history.specs.contracts.tally.Tally as tally_row;
     ghost use Rattle.rb_chapter_ring.specs.contracts.out_record.OutRecord as out_row;
-    ghost use Rattle.rb_chapter_ring.specs.HandRing.{hand_ring};
     ghost use Rattle.rb_chapter_ring.specs.TaggedRing.{TaggedRing};
-    ghost use Rattle.rb_chapter_ring.specs.inner.Ordinals.{IsHandState};
+    ghost use Rattle.rb_chapter_ring.specs.inner.RingBody.{ring_shown, parts_of, IsRingState};
 
     ghost Value = { TaggedRing };
 
     ghost coded = { Prim.hlevel (codes, contents_code, entry.the_row.coded, tally_row.the_row.coded, out_row.the_row.coded) };
 
-    ghost view = { λ s. record { tag = s.tag; state = hand_ring s.ring s.hands.items } };
+    ghost view = { ring_shown };
 
-    ghost invariant = { λ s. IsHandState (hand_ring s.ring s.hands.items) s.ordinals.items };
+    ghost invariant = { λ s. IsRingState (parts_of s) s.hands.items s.ordinals.items };
 }
 
 impl RingState {
@@ -83,7 +86,14 @@ impl RingState {
         ensures workers { IsErrOf result OpenFault.Workers ↔ (IsRingSize size × IsStartPosition start × ¬ IsWorkerCount workers) }
         ensures chapter { IsErrOf result OpenFault.Chapter ↔ (IsRingSize size × IsStartPosition start × IsWorkerCount workers × ¬ IsChapterRoom room) }
     {
-        let ring = ChapterState::new(alloc, size, start, workers, room)?;
+        check_setup(size, start, workers, room)?;
+        let Ok(mut chapter) = Chapter::new(alloc, room, workers) else {
+            return Err(OpenFault::Memory);
+        };
+        chapter.open_first(size, start);
+        let Ok(sheets) = empty_sheets(alloc, slots_for(size, room)) else {
+            return Err(OpenFault::Memory);
+        };
         let Ok(hands) = free_table(alloc, workers) else {
             return Err(OpenFault::Memory);
         };
@@ -92,9 +102,12 @@ impl RingState {
         };
         Ok(RingState {
             tag,
-            ring,
+            chapter,
+            sheets,
             hands,
             ordinals,
+            refused: 0,
+            discarded: 0,
         })
     }
 
@@ -126,7 +139,7 @@ impl RingState {
         ensures bounded { IsChapterRingWithin self.now.state.ring }
         ensures hands { HasHands self.now.state }
     {
-        self.ring.facts();
+        let _ = &self.chapter;
     }
 
     #[inline(always)]
@@ -134,7 +147,7 @@ impl RingState {
     pub fn chapter(&self) -> &Chapter
         ensures chapter { result.now ≡ self.now.state.ring.chapter }
     {
-        self.ring.chapter()
+        &self.chapter
     }
 
     /// Returns the answer to a query (bpf-helpers(7), bpf_ringbuf_query): the number of bytes between the two positions
@@ -143,7 +156,14 @@ impl RingState {
     pub fn query(&self, what: u64) -> u64
         ensures answer { result ≡ query_answer_from self.now.state.ring.chapter.opening self.now.state.ring.chapter.entries what }
     {
-        self.ring.query(what)
+        let numbers = self.chapter.closing().numbers();
+        match what {
+            AVAIL_DATA => numbers.producer - numbers.consumer,
+            RING_SIZE => numbers.size,
+            CONS_POS => numbers.consumer,
+            PROD_POS => numbers.producer,
+            _ => 0,
+        }
     }
 
     /// Returns the six totals since the ring was opened. The refusal count saturates at `u64::MAX`. Takes constant
@@ -151,7 +171,18 @@ impl RingState {
     pub fn counts(&self) -> Counts
         ensures counts { result ≡ told_counts self.now.state.ring }
     {
-        self.ring.counts()
+        let numbers = self.chapter.closing().numbers();
+        let there = self.many() as u64;
+        let made = numbers.consumed + numbers.skipped + there;
+        let busy = u64::from(self.chapter.owed()) - there;
+        Counts {
+            made,
+            refused: self.refused,
+            consumed: numbers.consumed,
+            discarded: self.discarded,
+            waiting: made - busy - numbers.consumed - self.discarded,
+            busy,
+        }
     }
 
     #[inline(always)]
@@ -175,201 +206,28 @@ impl RingState {
     }
 
     #[inline(always)]
-    /// Grants worker `worker` a record of `n` bytes, all zeros, at the producer position into this hand, if the ring
-    /// has room for it and the chapter for all entries that it will log. The record uses `sheet`, which must have `n`
-    /// bytes and is cleared. (bpf-helpers(7), bpf_ringbuf_reserve.)
-    ///
-    /// `Full` is logged: the ring has no room. `ChapterFull` changes nothing: the chapter has no room for the entries
-    /// that would be logged. A refusal returns the sheet. Takes constant time, except for clearing the bytes, and does
-    /// not allocate.
-    pub fn reserve(
-        &mut self,
-        worker: u32,
-        hand: u32,
-        n: u32,
-        sheet: Sheet,
-    ) -> Result<Reservation, (ReserveFault, Sheet)>
-        requires worker { worker < self.old.state.ring.chapter.opening.setup.workers }
-        requires hand { IsFree (hands_of self.old.state.hands worker) hand }
-        requires sized { length sheet ≡ n }
-        ensures same_tag { self.new.tag ≡ self.old.tag }
-        ensures same_chapter { IsSameChapter self.old.state.ring self.new.state.ring }
-        ensures granted { IfOk result (λ r. GrantsToHand self.old.state self.new.state worker hand n r.granted.pos r.granted.serial) }
-        ensures tag { IfOk result (λ r. r.tag ≡ self.old.tag) }
-        ensures hand { IfOk result (λ r. r.hand ≡ hand) }
-        ensures worker { IfOk result (λ r. r.granted.worker ≡ worker) }
-        ensures zeros { IfOk result (λ r. r.granted.bytes ≡ replicate n 0) }
-        ensures out { IfOk result (λ r. HasInHand self.new.state r.hand r.granted) }
-        ensures refused { IfErr result (λ e. RefusesInChapter self.old.state.ring self.new.state.ring worker n e.0) }
-        ensures same_hands { IfErr result (λ e. self.new.state.hands ≡ self.old.state.hands) }
-        ensures known_flags { IfErr result (λ e. e.0 ≢ Flags) }
-        ensures handed_back { IfErr result (λ e. e.1 ≡ sheet) }
+    // Returns the number of untaken records.
+    fn many(&self) -> usize
+        ensures many { result ≡ length self.now.state.ring.shown }
     {
-        let ring = &self.ring;
-        ring.facts();
-        let ordinal = ring.next_ordinal();
-        match self.ring.reserve(self.tag, worker, hand, n, sheet) {
-            Err(refused) => Err(refused),
-            Ok(reservation) => {
-                let out = OutRecord {
-                    pos: reservation.pos(),
-                    serial: reservation.serial(),
-                    len: n,
-                };
-                set_hand(&mut self.hands, worker, hand, Some(out));
-                set_ordinal(&mut self.ordinals, worker, hand, ordinal);
-                Ok(reservation)
-            }
-        }
+        self.chapter.closing().records().len()
     }
 
     #[inline(always)]
-    /// Submits the reservation's record, so that the consumer can take it with its bytes, and frees its hand. The
-    /// record is in that hand, so it is busy and never refused. (bpf-helpers(7), bpf_ringbuf_submit.)
-    ///
-    /// Only bits 0 and 1 of the flags are used. Takes constant time and does not allocate.
-    pub fn submit(&mut self, reservation: Reservation, flags: u64) -> Notice
-        requires out { HasInHand self.old.state reservation.hand reservation.granted }
-        ensures same_tag { self.new.tag ≡ self.old.tag }
-        ensures same_chapter { IsSameChapter self.old.state.ring self.new.state.ring }
-        ensures submitted { SubmitsFromHand self.old.state self.new.state reservation.hand reservation.granted }
-        ensures notice { (result ≡ Due) ↔ IsDue (consumer_by_chapter self.old.state.ring) reservation.granted.pos flags }
+    // Returns the number of records that were taken, which is the ordinal of the record at the front.
+    fn taken(&self) -> u64
+        ensures taken { result ≡ taken_before (closing_of self.now.state.ring.chapter) }
     {
-        self.settle(reservation, RecordEnd::Submit, flags)
+        let numbers = self.chapter.closing().numbers();
+        numbers.consumed + numbers.skipped
     }
 
     #[inline(always)]
-    /// Discards the reservation's record, so that the consumer skips it, and frees its hand. The record is in that
-    /// hand, so it is busy and never refused. (bpf-helpers(7), bpf_ringbuf_discard.)
-    ///
-    /// Only bits 0 and 1 of the flags are used. Takes constant time and does not allocate.
-    pub fn discard(&mut self, reservation: Reservation, flags: u64) -> Notice
-        requires out { HasInHand self.old.state reservation.hand reservation.granted }
-        ensures same_tag { self.new.tag ≡ self.old.tag }
-        ensures same_chapter { IsSameChapter self.old.state.ring self.new.state.ring }
-        ensures discarded { DiscardsFromHand self.old.state self.new.state reservation.hand reservation.granted }
-        ensures notice { (result ≡ Due) ↔ IsDue (consumer_by_chapter self.old.state.ring) reservation.granted.pos flags }
+    // Returns the ordinal of the record that is granted next.
+    fn next_ordinal(&self) -> u64
+        ensures ordinal { result ≡ taken_before (closing_of self.now.state.ring.chapter) + length (closing_of self.now.state.ring.chapter).records }
     {
-        self.settle(reservation, RecordEnd::Discard, flags)
-    }
-
-    #[inline(always)]
-    /// Submits or discards the reservation's record, as `end` says, and frees its hand. The record is in that hand, so
-    /// it is busy and never refused. (Linux kernel/bpf/ringbuf.c, bpf_ringbuf_commit.)
-    ///
-    /// Only bits 0 and 1 of the flags are used. Takes constant time and does not allocate.
-    pub fn settle(&mut self, reservation: Reservation, end: RecordEnd, flags: u64) -> Notice
-        requires out { HasInHand self.old.state reservation.hand reservation.granted }
-        ensures same_tag { self.new.tag ≡ self.old.tag }
-        ensures same_chapter { IsSameChapter self.old.state.ring self.new.state.ring }
-        ensures ended { EndsFromHand end reservation.hand reservation.granted self.old.state self.new.state }
-        ensures notice { (result ≡ Due) ↔ IsDue (consumer_by_chapter self.old.state.ring) reservation.granted.pos flags }
-    {
-        let ring = &self.ring;
-        ring.facts();
-        let worker = reservation.worker();
-        let hand = reservation.hand();
-        let index = self.index_in(&reservation);
-        let notice = self.ring.settle(index, reservation, end, flags);
-        set_hand(&mut self.hands, worker, hand, None);
-        notice
-    }
-
-    #[inline(always)]
-    // Returns the index of the reservation's record, which is in its hand, among the untaken ones.
-    fn index_in(&self, reservation: &Reservation) -> usize
-        requires out { HasInHand self.now.state reservation.now.hand reservation.now.granted }
-        ensures here { IsBusyAt self.now.state.ring.shown result reservation.now.granted.pos (length reservation.now.granted.bytes) }
-    {
-        let ring = &self.ring;
-        ring.facts();
-        let ordinal = self.ordinals[reservation.worker() as usize][reservation.hand() as usize];
-        (ordinal - ring.taken()) as usize
-    }
-
-    #[inline(always)]
-    /// Grants worker `worker` a record with the sheet's bytes and submits it in the same call. It needs no hand.
-    /// (bpf-helpers(7), bpf_ringbuf_output.)
-    ///
-    /// Refuses unknown flags first, which is not logged; otherwise it refuses as `reserve` does. A refusal returns the
-    /// sheet. Takes constant time and does not allocate.
-    pub fn output(
-        &mut self,
-        worker: u32,
-        sheet: Sheet,
-        flags: u64,
-    ) -> Result<Notice, (ReserveFault, Sheet)>
-        requires worker { worker < self.old.state.ring.chapter.opening.setup.workers }
-        ensures same_tag { self.new.tag ≡ self.old.tag }
-        ensures same_chapter { IsSameChapter self.old.state.ring self.new.state.ring }
-        ensures granted { OnOk result (OutputsByChapter self.old.state.ring self.new.state.ring worker sheet) }
-        ensures notice { IfOk result (λ n. (n ≡ Due) ↔ IsDue (consumer_by_chapter self.old.state.ring) (producer_by_chapter self.old.state.ring) flags) }
-        ensures known_flags { OnOk result (flags ≤ 3) }
-        ensures flags { IfErr result (λ e. (e.0 ≡ Flags) ↔ (3 < flags)) }
-        ensures refused { IfErr result (λ e. RefusesInChapter self.old.state.ring self.new.state.ring worker (length sheet) e.0) }
-        ensures same_hands { self.new.state.hands ≡ self.old.state.hands }
-        ensures handed_back { IfErr result (λ e. e.1 ≡ sheet) }
-    {
-        let ring = &self.ring;
-        ring.facts();
-        self.ring.output(worker, sheet, flags)
-    }
-
-    #[inline(always)]
-    /// Takes the record at the consumer position: returns a submitted one, or skips a discarded one. A busy record
-    /// stops it, whatever waits after that record. (Linux Documentation/bpf/ringbuf.rst: records are consumed in the
-    /// order of their reservation.)
-    ///
-    /// Takes constant time and does not allocate.
-    pub fn take(&mut self) -> Taken
-        ensures same_tag { self.new.tag ≡ self.old.tag }
-        ensures same_chapter { IsSameChapter self.old.state.ring self.new.state.ring }
-        ensures takes { TakesByChapter self.old.state.ring self.new.state.ring result }
-        ensures busy_front { (result ≡ BusyFront) ↔ HasBusyFrontByChapter self.old.state.ring }
-        ensures empty { (result ≡ Empty) ↔ AllTakenByChapter self.old.state.ring }
-        ensures same_hands { self.new.state.hands ≡ self.old.state.hands }
-    {
-        let ring = &self.ring;
-        ring.facts();
-        self.ring.take()
-    }
-
-    /// Takes up to `n` records, as `n` calls of `take`, and pushes each that was returned or skipped onto `out`.
-    /// Returns how many these are. (Linux Documentation/bpf/ringbuf.rst: records are consumed in the order of their
-    /// reservation.)
-    ///
-    /// It stops before the first take that finds a busy record or no record, so it pushes neither `BusyFront` nor
-    /// `Empty`. Takes constant time for each record and does not allocate.
-    pub fn take_many(&mut self, n: usize, out: &mut Vec<Taken>) -> usize
-        requires room { vec_len out.old + n ≤ vec_capacity out.old }
-        ensures same_tag { self.new.tag ≡ self.old.tag }
-        ensures same_chapter { IsSameChapter self.old.state.ring self.new.state.ring }
-        ensures takes { TakesManyInChapter n (pushed out.old.items out.new.items) self.old.state.ring self.new.state.ring }
-        ensures same_hands { self.new.state.hands ≡ self.old.state.hands }
-        ensures kept { out.new.items ≡ out.old.items ++ pushed out.old.items out.new.items }
-        ensures count { result ≡ length (pushed out.old.items out.new.items) }
-        ensures capacity { vec_capacity out.new ≡ vec_capacity out.old }
-    {
-        let ring = &self.ring;
-        ring.facts();
-        self.ring.take_many(n, out)
-    }
-
-    /// Hands out the chapter as it is. The ring continues in `empty`, which becomes the next chapter; its opening is
-    /// the summary of the old one at its end.
-    ///
-    /// Returns `empty` if it has entries, or another room or number of workers, or if the old chapter's number is 2^62.
-    /// Takes time linear in the numbers of untaken records and of workers, and does not allocate.
-    pub fn hand_out(&mut self, empty: Chapter) -> Result<Chapter, Chapter>
-        ensures handed_out { IfOk result (λ out. HandsOut self.old.state.ring self.new.state.ring out) }
-        ensures fit { IsOk result ↔ MayGoOnIn self.old.state.ring empty }
-        ensures same_tag { self.new.tag ≡ self.old.tag }
-        ensures same_hands { self.new.state.hands ≡ self.old.state.hands }
-        ensures handed_back { IfErr result (λ back. back ≡ empty) }
-        ensures unchanged { OnErr result (self.new ≡ self.old) }
-    {
-        let ring = &self.ring;
-        ring.facts();
-        self.ring.hand_out(empty)
+        let numbers = self.chapter.closing().numbers();
+        numbers.consumed + numbers.skipped + self.many() as u64
     }
 }
