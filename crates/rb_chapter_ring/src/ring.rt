@@ -12,10 +12,11 @@ ghost use Rattle.rb_chapter_ring.specs.Hands.{AreAllOut, IsLowestFree, free_book
 ghost use Rattle.rb_chapter_ring.specs.HandRing.{hand_ring, HasHands, HasInHand};
 ghost use Rattle.rb_chapter_ring.specs.inner.Ordinals.{taken_before};
 
-mod committing;
-mod granting;
-mod handing_out;
-mod taking;
+mod commit;
+mod hand_out;
+mod output;
+mod reserve;
+mod take;
 
 use crate::faults::OpenFault;
 use crate::hand_table::{free_table, no_ordinals};

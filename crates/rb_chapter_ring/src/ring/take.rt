@@ -1,4 +1,4 @@
-//! Taking records.
+//! Takes, one at a time and many.
 
 ghost use Rattle.std.specs.Prelude.{◌≡◌, ◌+◌, ◌≤◌, ◌++◌, ◌↔◌, length, vec_len, vec_capacity};
 ghost use Rattle.rb_history.specs.ManyTakes.{pushed};

@@ -1,4 +1,4 @@
-//! Handing out the chapter.
+//! The end of a chapter, which is handed out.
 
 ghost use Rattle.std.specs.Prelude.{◌≡◌, ◌↔◌, IsTrue, IsOk, IfOk, IfErr, OnErr};
 ghost use Rattle.rb_chapter_ring.specs.ChapterCalls.{HandsOut};

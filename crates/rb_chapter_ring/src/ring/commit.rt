@@ -1,4 +1,4 @@
-//! Committing records: their submit and their discard.
+//! The commit of a record, which is its submit or its discard.
 
 ghost use Rattle.std.specs.Prelude.{◌≡◌, ◌↔◌};
 ghost use Rattle.rb_history.specs.declared.answers.Notice.TheVariants.{Due};
