@@ -35,8 +35,8 @@ abbrev pub IsLateByAtMost : Setup → List Entry → (ℕ → List (List Entry))
 IsLateByAtMost r h jobs behind =
     (now : List Entry) (e : Entry) (after : List Entry) → h ≡ now ++ e ∷ after → sum_by (λ w. late_jobs w now (jobs w)) (numbers_below r.workers) ≤ behind
 
--- A ring larger than what these jobs request together, one for each of its workers and `behind` more, refuses no
--- reservation as long as its consumer is late by at most `behind` jobs.
+-- A ring larger than what these jobs request together, one for each of its workers and `behind` further ones, refuses
+-- no reservation as long as its consumer is late by at most `behind` jobs.
 abbrev pub NoneIsRefusedOnTime : Type 0
 NoneIsRefusedOnTime =
     (r : Setup) (most behind : ℕ) (h : List Entry) (jobs : ℕ → List (List Entry)) → IsLegal r h → producer_of r.start h + most ≤ 2 ^ 62

@@ -22,8 +22,8 @@ abbrev pub chapters_lent : Option (Bor Chapter) → List Chapter
 chapters_lent None = []
 chapters_lent (Some c) = c.now ∷ []
 
--- After the look, the chapter was handed out if it was due, as it was under the lock at that time; otherwise nothing
--- more was seen.
+-- After the look, the chapter was handed out if it was due, as it was under the lock at that time; otherwise the seat
+-- saw nothing further.
 abbrev pub HandsOutDue : Type 0 → Book → ChapterConsumerSeat → ChapterConsumerSeat → List Chapter → Type 0
 HandsOutDue due looked old new [] = ¬ due × (new.seen ≡ looked)
 HandsOutDue due looked old new (c ∷ cs) = due × LockedChapterCall Consumer looked new.seen (HandsOutNext old.handed_out c)

@@ -22,7 +22,7 @@ use Rattle.rb_verifier.specs.Annotation.{Annotation, HoldsAt, IsValid, IsLeast}
 use Rattle.rb_cost.specs.declared.cost.Cost.{Cost}
 use Rattle.rb_cost.specs.declared.cost.RingCost.{RingCost}
 use Rattle.rb_cost.specs.Paths.{IsMost}
-use Rattle.rb_cost.specs.Asking.{record_of, asked_of_helper, asked_by, asked_in, asked_at, is_on, bytes_on, is_of_ring, held_span}
+use Rattle.rb_cost.specs.Requests.{record_of, asked_of_helper, asked_by, asked_in, asked_at, is_on, bytes_on, is_of_ring, held_span}
 use Rattle.rb_cost.specs.Cost.{IsRingCost, IsCostUnder}
 use Rattle.rb_cost.proofs.Sizes.{AreKnown, known-record_of, reserve_known, output_ring_known}
 

@@ -27,21 +27,21 @@ use Rattle.rb_semantics.specs.ProgramMemory.{Memory, read, byte_of, byte_range, 
 use Rattle.rb_semantics.specs.ProgramStates.{State, register, operand_in, with_register, pointed, fill_of}
 use Rattle.rb_semantics.specs.HelperCalls.{HelperCall, Reserve, Submit, Discard, call_of_helper, call_reserve, call_give_back, call_given_back, call_output, call_handed_out, call_query}
 use Rattle.rb_semantics.specs.Instructions.{StepEffect, Goes, Ends, Asks, Stuck, goes_to, goes_by_edge, gives, execute_copy, execute_compute, execute_arithmetic, execute_load, execute_fill, after_store, execute_store, execute_spill, execute_compare, null_test, waits_for, execute_exit, execute, signed_number}
-use Rattle.rb_cost.specs.declared.asking.Asked.{Asked}
+use Rattle.rb_cost.specs.declared.requested_record.RequestedRecord.{RequestedRecord}
 use Rattle.rb_cost.specs.Runs.{asked_by_call}
 
 -- the record that two values name
-abbrev pub named_by : Value → Value → Option Asked
+abbrev pub named_by : Value → Value → Option RequestedRecord
 named_by (Ring ring) (Number len) = Some (record { ring = ring; len = len })
 named_by v w = None
 
-abbrev pub named_for : Option Helper → State → Option Asked
+abbrev pub named_for : Option Helper → State → Option RequestedRecord
 named_for (Some helper.Reserve) s = named_by (register s 1) (register s 2)
 named_for (Some helper.Output) s = named_by (register s 1) (register s 3)
 named_for called s = None
 
 -- the record that the registers name before a CALL
-abbrev pub named_before : Insn → State → Option Asked
+abbrev pub named_before : Insn → State → Option RequestedRecord
 named_before (Call code) s = named_for (helper_of code) s
 named_before insn s = None
 
@@ -149,7 +149,7 @@ length-pointed m (Number n) by len found e = absurd (cc)
 length-pointed m (Ring n) by len found e = absurd (cc)
 
 -- the requested record is the one that the registers name
-abbrev AsksFor : Option Asked → State → StepEffect → Type 0
+abbrev AsksFor : Option RequestedRecord → State → StepEffect → Type 0
 AsksFor named s (Asks call t) = (asked_by_call call ≡ named) × IsNamedAt s.unit call
 AsksFor named s effect = Unit {0}
 

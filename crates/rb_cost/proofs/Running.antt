@@ -33,10 +33,10 @@ use Rattle.rb_semantics.proofs.Keeping.{CanStepUnder, IsSoundUnder, can_step}
 use Rattle.rb_semantics.proofs.Sound.{instruction_keeps, can_start_under}
 use Rattle.rb_semantics.proofs.Laws.{step_is, resume-resumes, calls_helper}
 use Rattle.rb_semantics.proofs.Checks.{ring_passed}
-use Rattle.rb_cost.specs.declared.asking.Asked.{Asked}
+use Rattle.rb_cost.specs.declared.requested_record.RequestedRecord.{RequestedRecord}
 use Rattle.rb_cost.specs.declared.cost.Cost.{Cost}
 use Rattle.rb_cost.specs.Paths.{IsPath}
-use Rattle.rb_cost.specs.Asking.{record_of, asked_of_helper, asked_by, asked_in, asked_at, is_on, bytes_on, is_of_ring, held_span}
+use Rattle.rb_cost.specs.Requests.{record_of, asked_of_helper, asked_by, asked_in, asked_at, is_on, bytes_on, is_of_ring, held_span}
 use Rattle.rb_cost.specs.Cost.{IsRingCost, IsCostUnder}
 use Rattle.rb_cost.specs.Runs.{Moment, LeadsTo, AreMoments, call_of, call_at, granted_to, granted_at, asked_by_call, requested_at, ring_by, ring_of, held_record, ring_cost_at, IsAskedWithin, IsGrantedWithin, IsHeldWithin, IsRunWithin, RunsStayWithin}
 use Rattle.rb_cost.proofs.KeptReferences.{NewHolds, NewOf, edge_keeps}
@@ -68,7 +68,7 @@ known_named records x y v w first second k =
     ap (λ v. named_by v w) ring ∙ (ap (λ w. named_by (value.Ring k.ring) w) len ∙ sym (known-record_of x y k))
 
 -- what is granted is what was requested, or nothing
-granted_cases : (call : Option HelperCall) (answer : Option HelperAnswer) (asked : Option Asked) → ((c : HelperCall) → call ≡ Some c → asked_by_call c ≡ asked) → (granted_to call answer ≡ None) ⊎ (granted_to call answer ≡ asked)
+granted_cases : (call : Option HelperCall) (answer : Option HelperAnswer) (asked : Option RequestedRecord) → ((c : HelperCall) → call ≡ Some c → asked_by_call c ≡ asked) → (granted_to call answer ≡ None) ⊎ (granted_to call answer ≡ asked)
 granted_cases (Some (meaning.Reserve id ring len flags)) (Some meaning.Granted) asked h = inr (h _ refl)
 granted_cases (Some (meaning.Output ring bytes flags)) (Some (meaning.Code (pos ℕ.zero))) asked h = inr (h _ refl)
 granted_cases call answer asked h = inl refl
@@ -242,7 +242,7 @@ module _ (subject : Subject) (a : Annotation) (valid : IsValid (limits_of subjec
       omega arith
 
   -- what is granted at a moment is at most what is requested there
-  granted_below : (f : Option Asked → ℕ) → f None ≡ 0 → (m : Moment) → Can m.state → f (granted_at program m) ≤ f (asked_at program a m.state.unit)
+  granted_below : (f : Option RequestedRecord → ℕ) → f None ≡ 0 → (m : Moment) → Can m.state → f (granted_at program m) ≤ f (asked_at program a m.state.unit)
   granted_below f none m u =
       ⊎_elim
       (λ nothing. let zero : f (granted_at program m) ≡ 0 = ap f nothing ∙ none in omega arith)
@@ -250,7 +250,7 @@ module _ (subject : Subject) (a : Annotation) (valid : IsValid (limits_of subjec
       (granted_cases (call_at program m) m.answer (asked_at program a m.state.unit) (λ c is. (call_asks m.state u (next_step program m.state) refl c is).0))
 
   -- what the call of a moment requests is what is known to be requested there
-  asked_below : (f : Option Asked → ℕ) → f None ≡ 0 → (m : Moment) → Can m.state → f (requested_at program m) ≤ f (asked_at program a m.state.unit)
+  asked_below : (f : Option RequestedRecord → ℕ) → f None ≡ 0 → (m : Moment) → Can m.state → f (requested_at program m) ≤ f (asked_at program a m.state.unit)
   asked_below f none m u = by_call (call_at program m) refl
     where
       by_call : (call : Option HelperCall) → call_at program m ≡ call → f (option_and_then asked_by_call call) ≤ f (asked_at program a m.state.unit)

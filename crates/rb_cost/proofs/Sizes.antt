@@ -23,7 +23,7 @@ use Rattle.rb_verifier.specs.AbstractStates.{value_in}
 use Rattle.rb_verifier.specs.Annotation.{Annotation, HoldsAt, IsValid}
 use Rattle.rb_verifier.specs.VerifierChecks.{abstract_step}
 use Rattle.rb_semantics.proofs.Checks.{passed, ring_passed, size_passed, record_size_passed, from_zero, in_stack}
-use Rattle.rb_cost.specs.Asking.{asked_by, asked_in, asked_of_helper, asked_at, record_of}
+use Rattle.rb_cost.specs.Requests.{asked_by, asked_in, asked_of_helper, asked_at, record_of}
 use Rattle.rb_verifier.proofs.Laws.{both_hold}
 use Rattle.rb_cost.specs.inner.Pass.{IsSmall}
 use Rattle.rb_cost.proofs.KeptReferences.{AllHeld, NewHolds, NewOf, edge_keeps}

@@ -5,13 +5,13 @@ use Rattle.std.proofs.lemmas.List.Sums.{sum_by-cons}
 use Rattle.rb_insn.specs.declared.insn.Insn.{Insn}
 use Rattle.rb_verifier.specs.Annotation.{Annotation}
 use Rattle.rb_history.specs.Span.{span}
-use Rattle.rb_cost.specs.declared.asking.Asked.{Asked}
-use Rattle.rb_cost.specs.declared.counted.Counted.TheVariants.{Records, Bytes}
+use Rattle.rb_cost.specs.declared.requested_record.RequestedRecord.{RequestedRecord}
+use Rattle.rb_cost.specs.declared.path_quantity.Quantity.TheVariants.{Records, Bytes}
 use Rattle.rb_cost.specs.Paths.{IsPath, IsMost}
-use Rattle.rb_cost.specs.Asking.{asked_at, is_on, bytes_on}
+use Rattle.rb_cost.specs.Requests.{asked_at, is_on, bytes_on}
 use Rattle.rb_cost.specs.inner.Pass.{total, weight_at}
 
-none_on : (ring : ℕ) (asked : Option Asked) → cond (is_on ring asked) 1 0 ≤ 0 → bytes_on ring asked ≡ 0
+none_on : (ring : ℕ) (asked : Option RequestedRecord) → cond (is_on ring asked) 1 0 ≤ 0 → bytes_on ring asked ≡ 0
 none_on ring None none = refl
 none_on ring (Some asked) none = by_test (asked.ring == ring) none
   where

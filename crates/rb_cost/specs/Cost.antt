@@ -8,7 +8,7 @@ use Rattle.rb_verifier.specs.Subject.{Subject, limits_of, calls}
 use Rattle.rb_cost.specs.declared.cost.Cost.{Cost}
 use Rattle.rb_cost.specs.declared.cost.RingCost.{RingCost}
 use Rattle.rb_cost.specs.Paths.{IsPath, IsMost}
-use Rattle.rb_cost.specs.Asking.{asked_at, is_on, bytes_on, is_of_ring, held_span}
+use Rattle.rb_cost.specs.Requests.{asked_at, is_on, bytes_on, is_of_ring, held_span}
 
 -- for one ring: the most records that the calls of a path request, their bytes, and the most records and bytes that are
 -- held before an instruction

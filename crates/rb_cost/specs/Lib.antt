@@ -1,5 +1,5 @@
 pub mod Paths
-pub mod Asking
+pub mod Requests
 pub mod Cost
 pub mod Runs
 pub mod RunMoments

@@ -1,4 +1,5 @@
--- The moments of a whole run: what `ProgramRuns` says about a run is what its moments say one by one (own).
+-- The moments of a whole run. `ProgramRuns` describes a run as a whole; its moments describe the same run step by step
+-- (own).
 use Rattle.std.specs.Prelude.{◌≡◌, ℕ, List, [], ◌∷◌, ◌++◌, zip, Option, Some, None}
 use Rattle.rb_insn.specs.declared.insn.Insn.{Insn}
 use Rattle.rb_semantics.specs.ProgramStates.{State}
@@ -27,8 +28,8 @@ pub record HasMoments (program : List Insn) (first : State) (calls : List Helper
   pub calls_are : calls_in program (last ∷ before) ≡ zip calls answers
   pub end : End last
 
--- A run that returned a number came to an instruction that ends the program with it. A run that was handed a record
--- back came to a call with that answer. Nothing is stated about a run that still waits for an answer, or has no
+-- A run that returned a number reached an instruction that ends the program with it. A run that was handed a record
+-- back reached a call with that answer. Nothing is stated about a run that still waits for an answer, or has no
 -- meaning: a verified program has no such runs.
 abbrev pub EndsAtMoment : List Insn → State → List HelperCall → List HelperAnswer → Outcome → Type 0
 EndsAtMoment program first calls answers (Returns n) = HasMoments program first calls answers (λ last. next_step program last.state ≡ Ends n)

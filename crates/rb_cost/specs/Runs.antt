@@ -7,10 +7,10 @@ use Rattle.rb_verifier.specs.Subject.{Subject, limits_of}
 use Rattle.rb_semantics.specs.ProgramStates.{State, entry_program_state}
 use Rattle.rb_semantics.specs.HelperCalls.{HelperCall, Reserve, Output, pending_call_of, HelperAnswer, Granted, Code, Resumes, resume}
 use Rattle.rb_semantics.specs.Instructions.{StepEffect, Goes, Asks, next_step}
-use Rattle.rb_cost.specs.declared.asking.Asked.{Asked}
+use Rattle.rb_cost.specs.declared.requested_record.RequestedRecord.{RequestedRecord}
 use Rattle.rb_cost.specs.declared.cost.Cost.{Cost}
 use Rattle.rb_cost.specs.declared.cost.RingCost.{RingCost}
-use Rattle.rb_cost.specs.Asking.{is_on, bytes_on}
+use Rattle.rb_cost.specs.Requests.{is_on, bytes_on}
 use Rattle.rb_cost.specs.Cost.{IsCost, no_ring_cost}
 
 -- A moment of a run: the state before an instruction, and the answer to the instruction's call, if it made one and was
@@ -40,21 +40,21 @@ abbrev pub call_at : List Insn → Moment → Option HelperCall
 call_at program m = call_of (next_step program m.state)
 
 -- the record that a call was granted: a reserve that was answered with a record, or an output that was answered with 0
-abbrev pub granted_to : Option HelperCall → Option HelperAnswer → Option Asked
+abbrev pub granted_to : Option HelperCall → Option HelperAnswer → Option RequestedRecord
 granted_to (Some (Reserve id ring len flags)) (Some Granted) = Some (record { ring = ring; len = len })
 granted_to (Some (Output ring bytes flags)) (Some (Code (pos ℕ.zero))) = Some (record { ring = ring; len = length bytes })
 granted_to call answer = None
 
-abbrev pub granted_at : List Insn → Moment → Option Asked
+abbrev pub granted_at : List Insn → Moment → Option RequestedRecord
 granted_at program m = granted_to (call_at program m) m.answer
 
 -- the record that a call requests, for any answer
-abbrev pub asked_by_call : HelperCall → Option Asked
+abbrev pub asked_by_call : HelperCall → Option RequestedRecord
 asked_by_call (Reserve id ring len flags) = Some (record { ring = ring; len = len })
 asked_by_call (Output ring bytes flags) = Some (record { ring = ring; len = length bytes })
 asked_by_call call = None
 
-abbrev pub requested_at : List Insn → Moment → Option Asked
+abbrev pub requested_at : List Insn → Moment → Option RequestedRecord
 requested_at program m = option_and_then asked_by_call (call_at program m)
 
 -- the ring on which a call reserves the record with an id
@@ -68,7 +68,7 @@ ring_of program [] id = None
 ring_of program (m ∷ before) id = ring_by (call_at program m) id (ring_of program before id)
 
 -- a record in the memory of a program, as one of the ring on which it was reserved
-abbrev pub held_record : List Insn → List Moment → ℕ × List ℕ → Option Asked
+abbrev pub held_record : List Insn → List Moment → ℕ × List ℕ → Option RequestedRecord
 held_record program before r = option_map (λ ring. record { ring = ring; len = length r.1 }) (ring_of program before r.0)
 
 -- what a run was granted so far on a ring does not exceed the cost
@@ -90,8 +90,8 @@ pub record IsHeldWithin (program : List Insn) (before : List Moment) (held : Lis
 abbrev pub ring_cost_at : Cost → ℕ → RingCost
 ring_cost_at cost ring = slice_index_or cost.rings.items ring no_ring_cost
 
--- a run that came to a moment stayed within a cost: its steps, its calls, what it requested, what it was granted, and
--- what it holds at that moment
+-- a run stayed within a cost up to a moment: its steps, its calls, what it requested, what it was granted, and what it
+-- holds at that moment
 pub record IsRunWithin (subject : Subject) (cost : Cost) (last : Moment) (before : List Moment) : Type 0 where
   pub steps : length (last ∷ before) ≤ cost.steps
   pub calls : count_by (λ m. is_some (call_at subject.program m)) (last ∷ before) ≤ cost.calls

@@ -14,14 +14,14 @@
 //! ```
 #![tactic(auto)]
 
-mod asking;
 mod cost;
 mod cost_laws;
 mod cost_lines;
-mod costing;
-mod counted;
-mod held;
+mod holdings;
 mod pass;
+mod path_quantity;
+mod program_cost;
+mod requested_record;
 mod ring_size;
 mod turn_size;
 
@@ -30,6 +30,6 @@ pub use cost_laws::{
     none_is_refused_behind, room_is_what_is_left, runs_have_moments, runs_stay_within_their_cost,
 };
 pub use cost_lines::cost_text;
-pub use costing::cost_of;
+pub use program_cost::cost_of;
 pub use ring_size::{JobsAtOnce, least_ring, least_rings_are_least};
 pub use turn_size::{contexts_at_once, turns_fit_their_ring};

@@ -6,11 +6,11 @@ ghost use Rattle.rb_program.specs.Program.{unit_count, slot_at};
 ghost use Rattle.rb_program.specs.Shape.{IsWellShaped};
 ghost use Rattle.rb_verifier.specs.Annotation.{state_at};
 ghost use Rattle.rb_cost.specs.Paths.{IsPath, IsMost};
-ghost use Rattle.rb_cost.specs.Asking.{asked_at};
+ghost use Rattle.rb_cost.specs.Requests.{asked_at};
 ghost use Rattle.rb_cost.specs.inner.Pass.{IsSmall, Raises, Progress, weight_at, total};
 
-use crate::asking::weight;
-use crate::counted::Counted;
+use crate::path_quantity::Quantity;
+use crate::requested_record::weight;
 use rb_insn::Insn;
 use rb_program::{Program, jump_target, next_unit};
 use rb_verifier::AbsState;
@@ -44,7 +44,7 @@ struct Pass {
 fn visit(
     program: &Program,
     states: &[AbsState],
-    counted: Counted,
+    counted: Quantity,
     unit: u32,
     insn: &Insn,
     pass: &mut Pass,
@@ -69,7 +69,7 @@ pub(crate) fn most_on_path(
     alloc: Global,
     program: &Program,
     states: &[AbsState],
-    counted: Counted,
+    counted: Quantity,
 ) -> Result<u64, AllocError>
     requires count { length states.now ≡ unit_count program.now }
     requires well_shaped { IsWellShaped program.now }

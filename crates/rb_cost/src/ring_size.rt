@@ -30,8 +30,9 @@ pub fn least_ring(n: u128) -> Option<u64>
         .find(|size| n < u128::from(*size))
 }
 
-/// The law that the smallest ring is the smallest of all possible ring sizes. The function does nothing; its contract
-/// is the law.
+/// States that the smallest ring is the smallest of all possible ring sizes.
+///
+/// The function does nothing; its contract is the law.
 pub fn least_rings_are_least()
     ensures { LeastRingsAreLeast }
 {}

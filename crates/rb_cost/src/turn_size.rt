@@ -6,7 +6,8 @@ ghost use Rattle.rb_cost.specs.TurnSize.{LeastRingsHaveTurns, TurnsFit, contexts
 // The numbers of contexts from which a turn is chosen, if more than one fits.
 const TURN_LENGTHS: [u16; 4] = [16, 8, 4, 2];
 
-// Returns the longest turn of more than one context for which the turns of all workers leave more than half of the ring.
+// Returns the longest turn of more than one context for which the turns of all workers leave more than half of the
+// ring.
 fn longer_turn(size: u128, one_each: u128) -> Option<u16>
     requires { one_each < 2 ^ 96 }
     ensures { result ≡ find (λ n. nat_lt (2 * n * one_each) size) turn_lengths }
@@ -37,8 +38,10 @@ pub fn contexts_at_once(size: u64, workers: u32, cost: u64) -> Option<u32>
     }
 }
 
-/// The law that turns fit the empty ring, and that the smallest ring larger than what one context of every worker
-/// requests is the smallest in which turns are possible. The function does nothing; its contract is the law.
+/// States that turns fit the empty ring, and that the smallest ring larger than what one context of every worker
+/// requests is the smallest in which turns are possible.
+///
+/// The function does nothing; its contract is the law.
 pub fn turns_fit_their_ring()
     ensures fit { TurnsFit }
     ensures least { LeastRingsHaveTurns }

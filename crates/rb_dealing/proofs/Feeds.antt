@@ -10,7 +10,7 @@ use Rattle.rb_source.specs.Piece.{PieceContents}
 use Rattle.rb_dealing.specs.Dealt.{DealtPiece, AreDealtAmong, contexts_in, dealt_to, dropped_in, is_worker, saturated}
 use Rattle.rb_dealing.specs.inner.Feeds.{queued, GetsContexts, Fed, Deals, DealsPiece, DealsGiven}
 use Rattle.rb_dealing.specs.declared.lane.LaneFeed.{LaneFeed}
-use Rattle.rb_dealing.specs.declared.dealing.Dealing.{Dealing}
+use Rattle.rb_dealing.specs.declared.reader.Dealing.{Dealing}
 
 -- ---- pieces, one after another
 

@@ -6,8 +6,8 @@ use Rattle.rb_dealing.specs.Streams.{RunsStream}
 use Rattle.rb_dealing.specs.inner.Feeds.{queued, DealsGiven}
 use Rattle.rb_dealing.specs.inner.Lanes.{LaneFinished, LaneRan}
 use Rattle.rb_dealing.specs.Queues.{AreEmptyQueues}
-use Rattle.rb_dealing.specs.declared.dealing.Dealing.{Dealing}
-use Rattle.rb_dealing.specs.declared.dealing.Dealt.{Dealt}
+use Rattle.rb_dealing.specs.declared.reader.Dealing.{Dealing}
+use Rattle.rb_dealing.specs.declared.reader.Dealt.{Dealt}
 use Rattle.rb_dealing.specs.declared.lane.LaneFeed.{LaneFeed}
 use Rattle.rb_dealing.specs.declared.lane.Lane.{Lane}
 

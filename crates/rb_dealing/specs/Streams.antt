@@ -2,9 +2,9 @@
 use Rattle.std.specs.Prelude.{◌≡◌, ℕ, ◌<◌, List, length, slice_index_or, All}
 use Rattle.rb_source.specs.declared.source.SourceFault.{SourceFault}
 use Rattle.rb_dealing.specs.Dealt.{DealtPiece, AreDealtAmong, contexts_in, dealt_to, dropped_in, saturated}
-use Rattle.rb_dealing.specs.declared.dealing.Dealt.{Dealt}
-use Rattle.rb_dealing.specs.declared.dealing.DealEnd.{DealEnd}
-use Rattle.rb_dealing.specs.declared.dealing.DealEnd.TheVariants.{Over, Memory, Failed, Short}
+use Rattle.rb_dealing.specs.declared.reader.Dealt.{Dealt}
+use Rattle.rb_dealing.specs.declared.reader.DealEnd.{DealEnd}
+use Rattle.rb_dealing.specs.declared.reader.DealEnd.TheVariants.{Over, Memory, Failed, Short}
 use Rattle.rb_dealing.specs.declared.lane.Lane.{Lane}
 
 -- Pieces of the contexts that the source gave, in order, were each dealt to one worker or dropped. Each worker ran

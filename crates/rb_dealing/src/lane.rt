@@ -28,7 +28,7 @@ pub struct Lane<W> {
     pub worker: W,
     pub(crate) pieces: Consumer<Piece>,
     pub(crate) used: Producer<Piece>,
-    // It sleeps on this if its queue is empty.
+    // The lane sleeps on this while its queue is empty.
     pub(crate) parker: Arc<Parker>,
 }
 

@@ -8,14 +8,14 @@
 //! The queues are bounded, and a piece that was run is reused, so a steady stream does not allocate.
 #![tactic(auto)]
 
-mod dealing;
 mod idle;
 mod lane;
+mod reader;
 mod threads;
 mod work;
 
-pub use dealing::{DealEnd, Dealt, Late};
 pub use idle::Idle;
 pub use lane::{Lane, LaneFeed, PIECES, add_lane};
+pub use reader::{DealEnd, Dealt, Late};
 pub use threads::run_lanes;
 pub use work::Work;

@@ -8,9 +8,9 @@ ghost use Rattle.rb_dealing.specs.inner.Lanes.{LaneFinished, LaneRan};
 ghost use Rattle.rb_dealing.specs.Queues.{AreEmptyQueues, AreFeedsOf};
 ghost use Rattle.rb_dealing.specs.declared.lane.Lane.{Lane};
 
-use crate::dealing::{DealEnd, Dealing, Dealt, Late, deal};
 use crate::lane::{Lane, LaneFeed, wake_all};
-use crate::work::{Work, runs_go_on};
+use crate::reader::{DealEnd, Dealing, Dealt, Late, deal};
+use crate::work::{Work, runs_compose};
 use rb_source::Source;
 use std::alloc::Global;
 use std::sync::Wait;
@@ -131,7 +131,7 @@ pub fn run_lanes<R: Threads + Wait + Sync, I: Source + Send, W: Work + Send>(
         &mut end,
     );
     finish_all(feeds, lanes);
-    runs_go_on::<W>();
+    runs_compose::<W>();
     Dealt {
         contexts: dealing.contexts,
         dropped: dealing.dropped,

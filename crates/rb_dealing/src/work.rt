@@ -28,8 +28,8 @@ pub trait Work {
     ghost runs_both: { (a b c : Self) (xs ys : List (List ℕ)) → runs a xs b → runs b ys c → runs a (xs ++ ys) c };
 }
 
-/// The law for each `Work` that the contexts that are run first, followed by those that are run next, are those run in
+/// States for each `Work` that the contexts which are run first, followed by those that are run next, are those run in
 /// all. The function does nothing; its contract is the law.
-pub(crate) fn runs_go_on<W: Work>()
+pub(crate) fn runs_compose<W: Work>()
     ensures law { (a b c : _) (xs ys : List (List ℕ)) → W.runs a xs b → W.runs b ys c → W.runs a (xs ++ ys) c }
 {}

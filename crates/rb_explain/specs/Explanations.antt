@@ -93,9 +93,9 @@ window form program at = joined_below (near_line form program at) (unit_count pr
 
 -- the message for a fault: in words, a line with the advice after this prefix; in JSON, an object that also has the
 -- layer, the name and the unit
-abbrev pub said_text : LineForm → (front layer name : List ℕ) → ℕ → List ℕ → List ℕ
-said_text Words front layer name unit advice = front ++ advice ++ codes "\n"
-said_text Json front layer name unit advice = fault_object layer name unit advice
+abbrev pub message_text : LineForm → (front layer name : List ℕ) → ℕ → List ℕ → List ℕ
+message_text Words front layer name unit advice = front ++ advice ++ codes "\n"
+message_text Json front layer name unit advice = fault_object layer name unit advice
 
 -- the text can stand between quotation marks in JSON without any escape: it has no control character, quotation mark or
 -- backslash (RFC 8259, section 7)
@@ -135,11 +135,11 @@ ShowsFront form bytes at kind shown = ShowsUnits form bytes at shown
 -- the units that are shown are followed by the message for the fault
 abbrev pub ShowsDecodeFault : LineForm → List ℕ → ℕ → DecodeKind → List ℕ → Type 0
 ShowsDecodeFault form bytes at kind text =
-    (shown : List ℕ) × (advice : List ℕ) × ShowsFront form bytes at kind shown × BeginsWithName (decode_name kind) advice × (text ≡ shown ++ said_text form [] (codes "decode") (decode_name kind) at advice) × IsPlainText advice
+    (shown : List ℕ) × (advice : List ℕ) × ShowsFront form bytes at kind shown × BeginsWithName (decode_name kind) advice × (text ≡ shown ++ message_text form [] (codes "decode") (decode_name kind) at advice) × IsPlainText advice
 
 -- the lines around a unit are followed by the message for the fault
 abbrev pub ShowsShape : LineForm → List Insn → ℕ → ShapeFaultKind → List ℕ → Type 0
-ShowsShape form program at kind text = (advice : List ℕ) × BeginsWithName (shape_name kind) advice × (text ≡ window form program at ++ said_text form [] (codes "shape") (shape_name kind) at advice) × IsPlainText advice
+ShowsShape form program at kind text = (advice : List ℕ) × BeginsWithName (shape_name kind) advice × (text ≡ window form program at ++ message_text form [] (codes "shape") (shape_name kind) at advice) × IsPlainText advice
 
 -- the number of a rule: `V10: `
 abbrev pub number_text : Rule → List ℕ
@@ -147,7 +147,7 @@ number_text rule = rule_name rule ++ codes ": "
 
 -- the same for a broken rule; in words, its number precedes the message
 abbrev pub ShowsRule : LineForm → List Insn → ℕ → Rule → List ℕ → Type 0
-ShowsRule form program at rule text = (advice : List ℕ) × (text ≡ window form program at ++ said_text form (number_text rule) (codes "verify") (rule_name rule) at advice) × IsPlainText advice
+ShowsRule form program at rule text = (advice : List ℕ) × (text ≡ window form program at ++ message_text form (number_text rule) (codes "verify") (rule_name rule) at advice) × IsPlainText advice
 
 -- ---- the explanation of a text
 

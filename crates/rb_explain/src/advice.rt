@@ -11,27 +11,27 @@ pub(crate) fn decode_advice(kind: DecodeKind) -> &'static str
 {
     match kind {
         DecodeKind::Length => {
-            "A program is one or more units of eight bytes. Give the bytes of whole instructions, two units for a wide one."
+            "A program is one or more units of eight bytes. Pass the bytes of whole instructions; a wide instruction has two units."
         }
         DecodeKind::TooLong => {
-            "A program has 4,096 units at most. Unroll loops less, or share the work between several programs."
+            "A program has at most 4,096 units. Unroll loops less, or split the work over several programs."
         }
         DecodeKind::LeftOut => {
-            "This host leaves the instruction out: packet access, atomic operations, calls by register, calls of functions of the program, and wide loads of anything but a number or a ring by its index. Inline each function, and write plain loads and stores."
+            "This host does not support the instruction: packet access, atomic operations, calls by register, calls of functions of the program, and wide loads other than of a number or of a ring by its index. Inline each function, and use plain loads and stores."
         }
         DecodeKind::BadOpcode => {
             "No instruction has this opcode. Compile for the profile of this host: RFC 9669 without its legacy and atomic instructions."
         }
         DecodeKind::BadRegister => {
-            "A register is above r10. There are r0 to r10; the low half of the second byte is the destination, the high half the source."
+            "A register number is above 10. The registers are r0 to r10; the low half of the second byte is the destination, the high half the source."
         }
         DecodeKind::UnusedField => {
-            "A field that the instruction does not use is set, or has a number that it does not allow. Set it to zero."
+            "A field that the instruction does not use is not zero, or a field has a value that the instruction does not allow. Set an unused field to zero."
         }
         DecodeKind::HalfWide => {
-            "A wide instruction (opcode 18) lacks its second unit. Give all sixteen bytes of it."
+            "The second unit of a wide instruction (opcode 18) is missing. Pass all sixteen bytes of the instruction."
         }
-        DecodeKind::Memory => "There was no memory for the program.",
+        DecodeKind::Memory => "Memory for the program could not be allocated.",
     }
 }
 
@@ -41,21 +41,21 @@ pub(crate) fn shape_advice(kind: ShapeFaultKind) -> &'static str
 {
     match kind {
         ShapeFaultKind::Backward => {
-            "A jump leads backward. If it closes a loop, unroll the loop: programs here have none, and clang unrolls one at -O2 if the count is a small constant. If it closes none, only the order of the instructions is wrong: tools/bpf-hex lays out such a program so that each jump leads forward."
+            "The jump leads backward. If it closes a loop, unroll the loop: programs here have no loops, and clang unrolls one at -O2 if its count is a small constant. If it closes no loop, only the order of the instructions is wrong: tools/bpf-hex reorders such a program so that each jump leads forward."
         }
         ShapeFaultKind::OutOfProgram => {
-            "A jump leads out of the program. Its distance counts units from the one behind the jump, and a wide instruction has two."
+            "The jump leads out of the program. Its distance counts units from the one after the jump, and a wide instruction has two units."
         }
         ShapeFaultKind::IntoWide => {
-            "A jump leads to the second unit of a wide instruction. Let it lead to the first unit, or to the one behind it."
+            "The jump leads to the second unit of a wide instruction. Jump to the first unit, or to the next instruction."
         }
         ShapeFaultKind::FallsOff => {
-            "The program ends behind an instruction that goes on. Let each path end with exit."
+            "Execution would continue past the last instruction. End each path with exit."
         }
         ShapeFaultKind::Unreachable => {
-            "No path leads to this instruction. Leave it out, or let a jump lead to it."
+            "No path leads to this instruction. Remove it, or jump to it."
         }
-        ShapeFaultKind::Memory => "There was no memory for the check.",
+        ShapeFaultKind::Memory => "Memory for the check could not be allocated.",
     }
 }
 
@@ -66,47 +66,47 @@ pub(crate) fn rule_advice(rule: Rule) -> &'static str
 {
     match rule {
         Rule::Unreadable => {
-            "An instruction reads only registers that hold something on every path to it. Set the register first; r1 to r5 hold nothing after a call, and r0 nothing after a submit or a discard: keep what is needed in r6 to r9, or on the stack. A pointer on the stack is loaded by its eight bytes at once."
+            "An instruction may only read registers that hold a value on every path to it. Set the register first. After a call, r1 to r5 hold nothing, and after a submit or a discard neither does r0: keep what you need in r6 to r9, or on the stack. Load a pointer from the stack by a single load of eight bytes."
         }
         Rule::FramePointerWritten => {
-            "The frame pointer r10 is never written. Copy it to another register and change the copy."
+            "The frame pointer r10 must not be written. Copy it to another register and change the copy."
         }
         Rule::PointerArithmetic => {
-            "A pointer to the context, the stack or a record is moved by a known number alone, by a 64-bit addition or subtraction and at most 2^30 bytes from its start. Use constant offsets, and keep other arithmetic to numbers."
+            "A pointer to the context, the stack or a record may only be moved by a known number, by a 64-bit addition or subtraction, and at most 2^30 bytes from its start. Use constant offsets, and do other arithmetic only on numbers."
         }
         Rule::OutsidePart => {
-            "An access lies wholly inside the context, the stack (512 bytes below r10) or the record. Check the offset and the size, reserve a longer record, or give the program a longer context (--ctx)."
+            "An access must lie entirely inside the context, the stack (512 bytes below r10) or the record. Check the offset and the size, reserve a longer record, or give the program a longer context (--ctx)."
         }
-        Rule::ContextWritten => { "The context is only read. Write to the stack or to a record." }
+        Rule::ContextWritten => { "The context is read-only. Write to the stack or to a record." }
         Rule::PointerStored => {
-            "A pointer is stored at a place of the stack alone: all eight bytes of it, at an offset from r10 that is a multiple of 8. Store it so, or keep it in r6 to r9."
+            "A pointer may only be stored to the stack: all eight bytes of it, at an offset from r10 that is a multiple of 8. Store it there, or keep it in r6 to r9."
         }
         Rule::HelperArgument => {
-            "Each argument of a helper is of its kind: a ring below the number of rings (--rings), a number where a number is wanted, memory to output from, and the record's own first byte to submit or discard. Set r1 to r4 to these before the call."
+            "Each argument of a helper must be of its kind: a ring below the number of rings (--rings), a number, memory to output, or a pointer to the first byte of the record to submit or discard. Set r1 to r4 accordingly before the call."
         }
         Rule::SizeNotKnown => {
-            "The size of a record or an output is a constant that the verifier knows, for a record at most 67108864. Load it as a constant on every path, or branch to a call for each size."
+            "The size of a record or an output must be a constant that the verifier knows, and at most 67108864 for a record. Load it as a constant on every path, or branch to a separate call for each size."
         }
         Rule::TooManyReferences => {
-            "At most four records are held at once. Submit or discard one before the next is reserved."
+            "A program may hold at most four records at once. Submit or discard one before you reserve the next."
         }
         Rule::ReferenceLeft => {
-            "Each record that was reserved is given back before the program ends. Submit or discard it on every path to the exit."
+            "Each reserved record must be submitted or discarded before the program ends. Submit or discard it on every path to the exit."
         }
         Rule::ReferencesDiffer => {
-            "Where two paths meet they hold the same records, tested or not alike. Submit or discard on each path before they meet, and test for null before they part."
+            "Paths that meet must hold the same records, and each record must be tested for null on all of them or on none. Submit or discard on each path before they meet, and test for null before they part."
         }
         Rule::ResultNotNumber => {
-            "The program ends with a number in r0. Set r0 to a number before exit."
+            "The program must end with a number in r0. Set r0 to a number before exit."
         }
         Rule::PointerCompared => {
-            "Pointers are not compared, but for a reservation with null (64-bit == 0 or != 0). Compare the numbers that you load."
+            "Pointers must not be compared, except a reservation with null (64-bit == 0 or != 0). Compare the numbers that you load."
         }
         Rule::NullNotTested => {
-            "A reservation may be null, and is tested before its use. Branch where it is 0 (if r0 == 0 goto ..) before the access or the call."
+            "A reservation may be null and must be tested before its use. Branch if it is 0 (if r0 == 0 goto ..) before the access or the call."
         }
         Rule::UnknownHelper => {
-            "The helpers of this host are 130 to 134: bpf_ringbuf_output, reserve, submit, discard and query. Call one of these."
+            "This host has the helpers 130 to 134: bpf_ringbuf_output, reserve, submit, discard and query. Call one of these."
         }
     }
 }

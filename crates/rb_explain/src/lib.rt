@@ -19,18 +19,18 @@
 
 mod advice;
 mod assembly;
-mod explaining;
 mod explanation;
+mod fault_messages;
 mod forms;
 mod lines;
 mod listing;
 mod objects;
 mod parts;
-mod saying;
+mod program_explanation;
 mod state_lines;
 mod symbols;
 mod windows;
 
 pub use assembly::Assembly;
-pub use explaining::{explain, explain_bytes};
 pub use explanation::{Explanation, Reason};
+pub use program_explanation::{explain, explain_bytes};

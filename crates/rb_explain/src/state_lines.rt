@@ -54,7 +54,7 @@ impl fmt::Display for RegisterValue<'_> {
     }
 }
 
-/// Whether a register with this abstract value may be read.
+/// Returns whether a register with this abstract value may be read.
 pub(crate) fn is_readable(value: Abs) -> bool
     ensures { result ≡ texts.is_readable value }
 {
@@ -97,7 +97,7 @@ impl fmt::Display for Kept<'_> {
     }
 }
 
-/// Whether an abstract value is data and not a pointer.
+/// Returns whether an abstract value is data and not a pointer.
 pub(crate) fn is_data(value: Abs) -> bool
     ensures { result ≡ kept.is_data value }
 {

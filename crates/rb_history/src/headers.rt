@@ -13,6 +13,13 @@ pub const BUSY_BIT: u32 = 1 << 31;
 /// include/uapi/linux/bpf.h, BPF_RINGBUF_DISCARD_BIT).
 pub const DISCARD_BIT: u32 = 1 << 30;
 
+/// The maximal length in bytes of a record that a header can describe: 2^30 - 1, since the length has the 30 bits below
+/// the discard bit.
+///
+/// A ring of `size` bytes has room only for records of at most `size - 16` bytes (`specs/RoomRule.antt`), and a program
+/// may reserve at most 2^26 (`MAX_RECORD` in `rb_verifier`).
+pub const MAX_RECORD_LEN: u32 = DISCARD_BIT - 1;
+
 /// The header of a record: its length, its state and its page. It is written as eight bytes in front of the record.
 /// (Linux Documentation/bpf/ringbuf.rst.)
 #[derive(Clone, Copy, Debug, PartialEq, Eq)]

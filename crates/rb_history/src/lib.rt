@@ -49,7 +49,7 @@ mod tapes;
 pub use answers::{Counts, NoGrant, Notice, Taken};
 pub use bounds::{POSITION_LIMIT, SetupFault, check_setup, is_size, is_start, is_worker_count};
 pub use entries::Entry;
-pub use headers::{BUSY_BIT, DISCARD_BIT, Header, HeaderFault};
+pub use headers::{BUSY_BIT, DISCARD_BIT, Header, HeaderFault, MAX_RECORD_LEN};
 pub use notices_and_queries::{
     AVAIL_DATA, CONS_POS, FORCE_WAKEUP, KNOWN_FLAGS, NO_WAKEUP, PROD_POS, RING_SIZE, notice_for,
 };

@@ -9,8 +9,8 @@ use crate::{Condition, Insn, Width};
 
 #[inline(always)]
 #[tactic(auto, unfolding(crate::specs::ArithmeticAndJumps::jumps_of))]
-/// Whether a conditional jump is taken if its destination register holds `dst` and its source register holds `src` (RFC
-/// 9669, section 4.3).
+/// Returns whether a conditional jump is taken if its destination register holds `dst` and its source register holds
+/// `src` (RFC 9669, section 4.3).
 ///
 /// An instruction with an immediate operand ignores `src`. Takes constant time.
 pub fn jumps(insn: &Insn, dst: u64, src: u64) -> bool
@@ -36,7 +36,7 @@ pub fn jumps(insn: &Insn, dst: u64, src: u64) -> bool
 }
 
 #[inline(always)]
-/// Whether the condition holds for the low bits of two numbers, as many as the width has.
+/// Returns whether the condition holds for the low bits of two numbers, as many as the width has.
 ///
 /// Callers pass a constant width, so the compiler specializes this for each one.
 fn holds_at(width: Width, condition: Condition, dst: u64, src: u64) -> bool
@@ -47,7 +47,7 @@ fn holds_at(width: Width, condition: Condition, dst: u64, src: u64) -> bool
 
 #[inline(always)]
 #[tactic(auto, unfolding(crate::specs::WholeNumbers::condition_holds))]
-/// Whether the condition holds for two numbers that fit the width.
+/// Returns whether the condition holds for two numbers that fit the width.
 fn holds(width: Width, condition: Condition, a: u64, b: u64) -> bool
     requires first { a < 2 ^ bits_of width }
     requires second { b < 2 ^ bits_of width }

@@ -248,8 +248,8 @@ fn write_unit(out: &mut [u8], opcode: u8, registers: u8, offset: u16, imm: u32)
     LittleEndian::write_u32(&mut out[4..8], imm);
 }
 
-/// The laws of the encoding: an instruction's encoding fills its units, no encoding is a proper prefix of another, and
-/// bytes encode at most one list of instructions.
+/// States the laws of the encoding: an instruction's encoding fills its units, no encoding is a proper prefix of
+/// another, and bytes encode at most one list of instructions.
 ///
 /// For the proofs of callers; it does nothing at run time.
 pub fn spelling_laws()

@@ -68,7 +68,7 @@ impl<W: Write> Buffered<W> {
     }
 
     // Writes the waiting bytes, until a write fails or accepts nothing.
-    fn hand_on(&mut self) -> io::Result<()>
+    fn write_waiting(&mut self) -> io::Result<()>
         ensures bytes { Keeps (append_known (W.contents self.old.writer) self.old.waiting) (append_known (W.contents self.new.writer) self.new.waiting) }
         ensures empty { OnOk result (self.new.waiting ≡ []) }
         ensures handed_on { HandsOn W.contents self.old (is_ok result) self.new }
@@ -98,11 +98,11 @@ impl<W: Write> Buffered<W> {
     // Writes a piece for which the buffer has no room. The error is that of an underlying write.
     #[cold]
     #[inline(never)]
-    fn write_behind(&mut self, piece: &[u8]) -> Result<usize, DeviceFault>
+    fn write_without_room(&mut self, piece: &[u8]) -> Result<usize, DeviceFault>
         ensures bound { IfOk result (λ n. n ≤ length piece.now) }
         ensures bytes { WriteAppends (append_known (W.contents self.old.writer) self.old.waiting) (append_known (W.contents self.new.writer) self.new.waiting) result piece.now }
     {
-        if self.hand_on().is_err() {
+        if self.write_waiting().is_err() {
             return Err(DeviceFault);
         }
         if piece.len() > CAPACITY {
@@ -124,7 +124,7 @@ impl<W: Write> Write for Buffered<W> {
     #[inline(always)]
     fn write(&mut self, piece: &[u8]) -> io::Result<usize> {
         if piece.len() > CAPACITY - self.count {
-            return match self.write_behind(piece) {
+            return match self.write_without_room(piece) {
                 Ok(n) => Ok(n),
                 Err(DeviceFault) => Err(Error::from(ErrorKind::WriteZero)),
             };
@@ -151,7 +151,7 @@ impl<W: Write> Outgoing for Buffered<W> {
     ghost contents_are = { λ b. refl };
 
     fn write_out(&mut self) -> io::Result<()> {
-        self.hand_on()?;
+        self.write_waiting()?;
         self.writer.flush()
     }
 }

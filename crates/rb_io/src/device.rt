@@ -12,7 +12,7 @@ use thiserror::Error;
 
 /// A read or a write failed, or a write accepted nothing. An interrupted call counts as failed.
 #[derive(Clone, Copy, Debug, Error, PartialEq, Eq)]
-#[error("a read or a write failed, or a write took nothing")]
+#[error("a read or a write failed, or a write accepted nothing")]
 pub struct DeviceFault;
 
 /// Reads until the buffer is full or the input ends, and returns the number of bytes read.

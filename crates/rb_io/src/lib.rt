@@ -10,12 +10,12 @@ mod ahead;
 mod buffered;
 mod device;
 mod incoming;
-mod noted;
+mod kept_errors;
 mod outgoing;
 
 pub use ahead::ReadAhead;
 pub use buffered::Buffered;
 pub use device::{DeviceFault, read_full, write_out, write_whole};
 pub use incoming::Incoming;
-pub use noted::{Front, NotedReader, NotedWriter};
+pub use kept_errors::{Front, NotedReader, NotedWriter};
 pub use outgoing::Outgoing;

@@ -18,7 +18,7 @@ use Rattle.rb_linux_ring.specs.declared.linux_header.LinuxFront.TheVariants.{Rec
 abbrev pub IsLinuxRingSize : ℕ → Type 0
 IsLinuxRingSize size = IsPowerOfTwo size × (4096 ≤ size) × (size ≤ 2 ^ 36)
 
--- a header may be read there: the size is that of a ring, and the position is a multiple of eight up to 2^61
+-- a header may be read at this position: the size is that of a ring, and the position is a multiple of eight up to 2^61
 abbrev pub IsLinuxPlace : (size position : ℕ) → Type 0
 IsLinuxPlace size position = IsLinuxRingSize size × IsStartPosition position
 
@@ -45,8 +45,8 @@ ShowsLinuxFront size position pages number (Record len discarded next) =
     (h : Header) × IsLinuxHeaderAt size position pages number h × (h.busy ≡ false) × (len ≡ h.len) × (discarded ≡ h.discard) × (next ≡ position + span h.len)
 ShowsLinuxFront size position pages number Busy = (h : Header) × IsLinuxHeaderAt size position pages number h × (h.busy ≡ true)
 
--- The first thing that is wrong with the number as a header: both bits are set; otherwise it names another page;
--- otherwise its record does not fit in the ring.
+-- The first fault of the number as a header: both bits are set; otherwise it names another page; otherwise its record
+-- does not fit in the ring.
 abbrev pub IsLinuxFault : (size position pages number : ℕ) → LinuxFault → Type 0
 IsLinuxFault size position pages number BothBits = HasBothBits (to_le_bytes w64 number)
 IsLinuxFault size position pages number OtherPage = (h : Header) × ShowsHeader number h × ¬ HasLinuxPage size position pages h

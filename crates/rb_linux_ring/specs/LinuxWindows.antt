@@ -1,4 +1,4 @@
--- The headers of submitted records on one page of a ring of Linux (Linux Documentation/bpf/ringbuf.rst;
+-- The headers of submitted records on one page of a Linux ring buffer (Linux Documentation/bpf/ringbuf.rst;
 -- kernel/bpf/ringbuf.c).
 use Rattle.std.specs.Prelude.{ℕ, ◌≡◌, ◌+◌, ◌^◌, ◌<◌, ◌≤◌, false}
 use Rattle.rb_history.specs.Span.{span}

@@ -36,7 +36,7 @@ pub enum LinuxFault {
     #[error("the header names another page")]
     OtherPage,
     /// The record does not fit in the ring.
-    #[error("the record has no room in the ring")]
+    #[error("the record does not fit in the ring")]
     NoRoom,
 }
 

@@ -54,7 +54,7 @@ fn residue(offset: i64, size: u64) -> u64
     offset.cast_unsigned() % size
 }
 
-// Whether `at + by` is a multiple of `size`.
+// Returns whether `at + by` is a multiple of `size`.
 fn is_aligned(at: i64, by: i64, size: u64) -> bool
     requires positive { 0 < size }
     requires short { size ≤ 8 }
@@ -63,7 +63,7 @@ fn is_aligned(at: i64, by: i64, size: u64) -> bool
     (residue(at, size) + residue(by, size)) % size == 0
 }
 
-// The class of a load or a store of `size` bytes at `pointer + by`.
+// Returns the class of a load or a store of `size` bytes at `pointer + by`.
 fn access_class(pointer: Abs, by: i64, size: u64) -> Option<LinuxClass>
     requires positive { 0 < size }
     requires short { size ≤ 8 }
@@ -77,14 +77,14 @@ fn access_class(pointer: Abs, by: i64, size: u64) -> Option<LinuxClass>
     }
 }
 
-// Whether Linux allows a distance or an offset.
+// Returns whether Linux allows a distance or an offset.
 fn is_close(offset: i128) -> bool
     ensures { result ≡ portability.is_close offset }
 {
     -FAR < offset && offset < FAR
 }
 
-// The class of moving a pointer by `by`, to offset `to`.
+// Returns the class of moving a pointer by `by`, to offset `to`.
 fn move_class(by: i64, to: i128) -> Option<LinuxClass>
     ensures { result ≡ portability.move_class by to }
 {
@@ -106,7 +106,7 @@ fn difference(first: i64, second: i64) -> i128
     i128::from(first) - i128::from(second)
 }
 
-// The class of a 64-bit addition to a register.
+// Returns the class of a 64-bit addition to a register.
 fn add_class(dst: Abs, by: Option<i64>) -> Option<LinuxClass>
     ensures { result ≡ portability.add_class dst by }
 {
@@ -118,7 +118,7 @@ fn add_class(dst: Abs, by: Option<i64>) -> Option<LinuxClass>
     }
 }
 
-// The class of a 64-bit subtraction from a register.
+// Returns the class of a 64-bit subtraction from a register.
 fn sub_class(dst: Abs, by: Option<i64>) -> Option<LinuxClass>
     ensures { result ≡ portability.sub_class dst by }
 {
@@ -148,7 +148,7 @@ fn shift_class(width: Width, operand: Operand) -> Option<LinuxClass>
     }
 }
 
-// The class of an arithmetic instruction, given the abstract values of its operands.
+// Returns the class of an arithmetic instruction, given the abstract values of its operands.
 fn binary_class(
     width: Width,
     op: BinaryOp,
@@ -177,7 +177,7 @@ fn division_class(operand: Operand) -> Option<LinuxClass>
     }
 }
 
-// The class of an output of the bytes that `bytes` points to.
+// Returns the class of an output of the bytes that `bytes` points to.
 fn output_class(bytes: Abs) -> Option<LinuxClass>
     ensures { result ≡ portability.output_class bytes }
 {
@@ -188,7 +188,7 @@ fn output_class(bytes: Abs) -> Option<LinuxClass>
     }
 }
 
-// The class of a call, given the abstract value of its second argument.
+// Returns the class of a call, given the abstract value of its second argument.
 fn call_class(helper: Option<Helper>, bytes: Abs) -> Option<LinuxClass>
     ensures { result ≡ portability.call_class helper bytes }
 {
@@ -198,7 +198,7 @@ fn call_class(helper: Option<Helper>, bytes: Abs) -> Option<LinuxClass>
     }
 }
 
-// The class of a load or a store of `size` bytes at `base + offset`.
+// Returns the class of a load or a store of `size` bytes at `base + offset`.
 fn access_class_at(state: &AbsState, base: Reg, offset: i16, size: usize) -> Option<LinuxClass>
     requires positive { 0 < size }
     requires short { size ≤ 8 }

@@ -276,15 +276,15 @@ wide_spelled op bytes next keeps wide second =
 -- ---- the results of the step's calls, for the bytes
 
 -- a function of the fields, given the result of a call
-pub told : {A : Type 0} (g : Fields → A) (f : Fields) (bytes : List ℕ) (answer value : A) → f ≡ fields_at bytes → answer ≡ g f → answer ≡ value → g (fields_at bytes) ≡ value
-told g f bytes answer value at answered is = ap g (sym at) ∙ sym answered ∙ is
+pub computed : {A : Type 0} (g : Fields → A) (f : Fields) (bytes : List ℕ) (answer value : A) → f ≡ fields_at bytes → answer ≡ g f → answer ≡ value → g (fields_at bytes) ≡ value
+computed g f bytes answer value at answered is = ap g (sym at) ∙ sym answered ∙ is
 
 pub found : (op : OpcodeMeaning) (f : Fields) (bytes : List ℕ) (out : Bool) (answer : Option OpcodeMeaning) → f ≡ fields_at bytes → IsBytes bytes
     → out ≡ is_left_out f → out ≡ false → answer ≡ operation_at f.opcode → answer ≡ Some op → IsFound op bytes
 found op f bytes out answer at fits left kept answered is = record {
   bytes_fit = fits;
-  kept = told is_left_out f bytes out false at left kept;
-  operation = told (λ g. operation_at g.opcode) f bytes answer (Some op) at answered is;
+  kept = computed is_left_out f bytes out false at left kept;
+  operation = computed (λ g. operation_at g.opcode) f bytes answer (Some op) at answered is;
 }
 
 pub keeps : (op : OpcodeMeaning) (f : Fields) (bytes : List ℕ) (named registers numbers : Bool) → f ≡ fields_at bytes → IsFound op bytes
@@ -292,7 +292,7 @@ pub keeps : (op : OpcodeMeaning) (f : Fields) (bytes : List ℕ) (named register
     → IsKept op bytes
 keeps op f bytes named registers numbers at is_found n nt r rt m mt = record {
   found = is_found;
-  named = told (is_named_by op) f bytes named true at n nt;
-  registers = told (λ g. registers_fit (row_for op g.src) g) f bytes registers true at r rt;
-  numbers = told (λ g. numbers_fit (row_for op g.src) g) f bytes numbers true at m mt;
+  named = computed (is_named_by op) f bytes named true at n nt;
+  registers = computed (λ g. registers_fit (row_for op g.src) g) f bytes registers true at r rt;
+  numbers = computed (λ g. numbers_fit (row_for op g.src) g) f bytes numbers true at m mt;
 }

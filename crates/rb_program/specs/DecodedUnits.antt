@@ -14,9 +14,9 @@ kept_units [] = []
 kept_units (insn ∷ insns) = (insn ∷ replicate (units_taken insn - 1) Exit) ++ kept_units insns
 
 -- what begins at each unit, where `before` is the unit stored before the first: nothing if that is wide
-abbrev pub slots_behind : Insn → List Insn → List (Option Insn)
-slots_behind before [] = []
-slots_behind before (insn ∷ units) = cond (units_taken before == 2) None (Some insn) ∷ slots_behind insn units
+abbrev pub slots_after : Insn → List Insn → List (Option Insn)
+slots_after before [] = []
+slots_after before (insn ∷ units) = cond (units_taken before == 2) None (Some insn) ∷ slots_after insn units
 
 -- the instructions that begin at the units of a list
 abbrev pub insns_in : List (Option Insn) → List Insn
@@ -26,7 +26,7 @@ insns_in (None ∷ units) = insns_in units
 
 -- the instructions that these stored units represent
 abbrev pub insns_kept : List Insn → List Insn
-insns_kept units = insns_in (slots_behind Exit units)
+insns_kept units = insns_in (slots_after Exit units)
 
 -- the invariant of a program's stored units
 pub record AreUnits (units : List Insn) : Type 0 where

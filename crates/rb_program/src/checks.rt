@@ -26,7 +26,7 @@ use crate::opcode_meaning::{OpcodeMeaning, SourceOperand};
 use rb_insn::{Extend32, Extend64, Insn, Operand, Reg, Signedness, SwapWidth, Width};
 
 impl OpcodeMeaning {
-    /// Whether the source field and the immediate select an instruction, if the opcode alone does not.
+    /// Returns whether the source field and the immediate select an instruction, if the opcode alone does not.
     pub(crate) fn is_named_by(self, fields: &Fields) -> bool
         ensures { result ≡ is_named_by self fields.now }
     {
@@ -38,7 +38,7 @@ impl OpcodeMeaning {
         }
     }
 
-    /// Whether the destination field holds a register.
+    /// Returns whether the destination field holds a register.
     fn has_dst(self) -> bool
         ensures { (src : ℕ) → result ≡ is_register (row_for self src).dst }
     {
@@ -51,7 +51,7 @@ impl OpcodeMeaning {
         }
     }
 
-    /// Whether the source field holds a register.
+    /// Returns whether the source field holds a register.
     fn has_src(self) -> bool
         ensures { (src : ℕ) → result ≡ is_register (row_for self src).src }
     {
@@ -70,14 +70,14 @@ impl OpcodeMeaning {
         }
     }
 
-    /// Whether the fields that hold registers are 0 to 10.
+    /// Returns whether the fields that hold registers are 0 to 10.
     pub(crate) fn has_registers(self, fields: &Fields) -> bool
         ensures { result ≡ registers_fit (row_for self fields.now.src) fields.now }
     {
         (!self.has_dst() || fields.dst <= 10) && (!self.has_src() || fields.src <= 10)
     }
 
-    /// Whether the operation allows this offset.
+    /// Returns whether the operation allows this offset.
     fn allows_offset(self, offset: u16) -> bool
         ensures { (src : ℕ) → result ≡ fits_unused (row_for self src).offset offset }
     {
@@ -99,7 +99,7 @@ impl OpcodeMeaning {
         }
     }
 
-    /// Whether the operation uses the immediate.
+    /// Returns whether the operation uses the immediate.
     fn has_imm(self) -> bool
         ensures { (src : ℕ) (imm : ℕ) → fits_unused (row_for self src).imm imm ≡ (result || (imm == 0)) }
     {
@@ -120,7 +120,7 @@ impl OpcodeMeaning {
         }
     }
 
-    /// Whether the other fields have values that the operation allows: zero if it does not use them.
+    /// Returns whether the other fields have values that the operation allows: zero if it does not use them.
     ///
     /// The source field of a wide instruction is already checked by `is_named_by`.
     pub(crate) fn has_numbers(self, fields: &Fields) -> bool
@@ -132,7 +132,7 @@ impl OpcodeMeaning {
         dst && src && self.allows_offset(fields.offset) && (self.has_imm() || fields.imm == 0)
     }
 
-    /// Whether the instruction takes two units.
+    /// Returns whether the instruction takes two units.
     pub(crate) fn is_wide(self) -> bool
         ensures { (src : ℕ) → result ≡ is_some (row_for self src).next }
     {

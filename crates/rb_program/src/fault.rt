@@ -15,7 +15,7 @@ pub enum DecodeKind {
     TooLong,
     /// An instruction that this project does not support: packet access, atomics, calls by register, program-local
     /// calls, calls by BTF number, and loads of addresses other than a map by its index.
-    #[error("instruction left out")]
+    #[error("instruction not supported")]
     LeftOut,
     /// An opcode that belongs to no instruction.
     #[error("bad opcode")]
@@ -25,10 +25,10 @@ pub enum DecodeKind {
     BadRegister,
     /// A field that the instruction does not use is not zero, or a field has a value that the instruction does not
     /// allow.
-    #[error("unused field is set")]
+    #[error("unused field is not zero")]
     UnusedField,
     /// A wide instruction whose second unit is missing.
-    #[error("half a wide instruction")]
+    #[error("wide instruction without its second unit")]
     HalfWide,
     /// Memory for the program could not be allocated.
     #[error("out of memory")]
@@ -77,7 +77,7 @@ impl<T: Drop> From<AllocFailed<T>> for DecodeFault {
     }
 }
 
-/// Why a text is not a program.
+/// The reason why a text is not a program.
 #[derive(Clone, Copy, Debug, PartialEq, Eq, Error)]
 pub enum TextFault {
     /// The text, without its white space, is not a sequence of pairs of hex digits.

@@ -11,7 +11,7 @@ use crate::fields::{Fields, read_fields, read_next_imm};
 use crate::opcode_meaning::OpcodeMeaning;
 use rb_insn::Insn;
 
-/// Whether the unit is an instruction that this project does not support.
+/// Returns whether the unit is an instruction that this project does not support.
 fn is_left_out(fields: &Fields) -> bool
     ensures { result ≡ is_left_out_of fields.now }
 {
@@ -23,7 +23,7 @@ fn is_left_out(fields: &Fields) -> bool
     }
 }
 
-/// Whether the bytes before the second immediate of the wide instruction at the front are zero.
+/// Returns whether the bytes before the second immediate of the wide instruction at the front are zero.
 fn has_zeros(bytes: &[u8]) -> bool
     requires { 16 ≤ length bytes.now }
     ensures { result ≡ has_zeros_at bytes.now }

@@ -14,7 +14,7 @@
 #![tactic(auto)]
 
 mod checks;
-mod decoding;
+mod codec;
 mod edges;
 mod fault;
 mod fields;
@@ -27,7 +27,7 @@ mod shape_fault;
 mod shape_type;
 mod text;
 
-pub use decoding::{decode, decoding_laws, encode};
+pub use codec::{decode, decoding_laws, encode};
 pub use edges::{jump_target, next_unit};
 pub use fault::{DecodeFault, DecodeKind, TextFault};
 pub use program::{Code, MAX_UNITS, Program};

@@ -1,7 +1,7 @@
 //! The type of programs.
 
 ghost use Rattle.std.specs.Prelude.{◌≡◌};
-ghost use Rattle.rb_program.specs.inner.WideUnits.{is_behind_wide as is_behind_wide_of};
+ghost use Rattle.rb_program.specs.inner.WideUnits.{follows_wide as is_behind_wide_of};
 
 use rb_insn::Insn;
 use std::marker::Model;
@@ -31,8 +31,8 @@ impl Model for Program {
     ghost invariant = { λ p. AreUnits p.units.items };
 }
 
-/// Whether the instruction before `unit` is wide, so that `unit` is its second unit.
-fn is_behind_wide(units: &[Insn], unit: usize) -> bool
+/// Returns whether the instruction before `unit` is wide, so that `unit` is its second unit.
+fn follows_wide(units: &[Insn], unit: usize) -> bool
     ensures { result ≡ is_behind_wide_of units.now unit }
 {
     unit > 0 && unit <= units.len() && units[unit - 1].units() == 2
@@ -67,7 +67,7 @@ impl Program {
         ensures { option_copied result ≡ slot_at self.now unit }
     {
         let unit = unit as usize;
-        if is_behind_wide(&self.units, unit) {
+        if follows_wide(&self.units, unit) {
             return None;
         }
         self.units.get(unit)
@@ -90,8 +90,8 @@ impl Program {
         Code { units: &self.units }
     }
 
-    /// The invariant of every program: it has 1 to 4096 units, an instruction begins at each unit except the second
-    /// units of wide instructions, and the numbers in each instruction fit their fields.
+    /// States the invariant of every program: it has 1 to 4096 units, an instruction begins at each unit except the
+    /// second units of wide instructions, and the numbers in each instruction fit their fields.
     ///
     /// For the proofs of callers; it does nothing at run time.
     pub fn facts(&self)

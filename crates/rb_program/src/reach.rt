@@ -18,13 +18,13 @@ pub(crate) fn reached_units(alloc: Global, program: &Program) -> Result<Vec<bool
     let mut waiting = Vec::new(alloc);
     mark(&mut marks, &mut waiting, Some(0))?;
     while let Some(unit) = waiting.pop() {
-        look_at(program, unit, &mut marks, &mut waiting)?;
+        visit(program, unit, &mut marks, &mut waiting)?;
     }
     Ok(marks)
 }
 
 /// Does one step of the search: marks the targets of the edges out of `unit`.
-fn look_at(
+fn visit(
     program: &Program,
     unit: u32,
     marks: &mut Vec<bool>,

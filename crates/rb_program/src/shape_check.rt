@@ -80,7 +80,7 @@ fn fault_at(program: &Program, unit: u32, insn: &Insn, marks: &[bool]) -> Option
     None
 }
 
-/// Whether the instruction jumps by a negative distance.
+/// Returns whether the instruction jumps by a negative distance.
 fn jumps_back(insn: &Insn) -> bool
     ensures { IsTrue result ↔ JumpsBack insn.now }
 {

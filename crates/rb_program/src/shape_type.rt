@@ -41,9 +41,9 @@ impl Shape {
         &self.program
     }
 
-    /// The invariant of every well-shaped program: it has no fault; its edges lead forward, to instructions; each
-    /// instruction is reachable; none falls off the end; each jump has a target; and each instruction but the first, at
-    /// unit 0, is entered from an earlier one.
+    /// States the invariant of every well-shaped program: it has no fault; its edges lead forward, to instructions;
+    /// each instruction is reachable; none falls off the end; each jump has a target; and each instruction but the
+    /// first, at unit 0, is entered from an earlier one.
     ///
     /// For the proofs of callers; it does nothing at run time.
     pub fn facts(&self)

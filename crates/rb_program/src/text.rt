@@ -9,7 +9,7 @@ ghost use Rattle.rb_program.specs.Program.{IsProgram};
 ghost use Rattle.rb_program.specs.Text.{IsHexOf, without_white_space};
 ghost use Rattle.rb_program.specs.inner.TextFaults.{IsTextFault};
 
-use crate::decoding::decode;
+use crate::codec::decode;
 use crate::fault::TextFault;
 use crate::program::Program;
 use std::alloc::{AllocError, Global};

@@ -23,7 +23,7 @@ use Rattle.rb_history.proofs.Standing.{head-status}
 use Rattle.rb_history.proofs.TakenRecords.{span-of}
 use Rattle.rb_cost.specs.declared.cost.Cost.{Cost}
 use Rattle.rb_cost.specs.Cost.{IsCost}
-use Rattle.rb_cost.specs.Asking.{held_span}
+use Rattle.rb_cost.specs.Requests.{held_span}
 use Rattle.rb_cost.specs.Runs.{ring_of, ring_cost_at}
 use Rattle.rb_world.specs.declared.actor.Actor.{Actor}
 use Rattle.rb_world.specs.Worlds.{RecordPlace, HeldRecords, WorkerStatus, Running, Finished, Halted, Strayed, WorkerState, World}

@@ -17,7 +17,7 @@ use Rattle.rb_interp.specs.declared.fault.RunFault.TheVariants.{ContextLength, S
 use Rattle.rb_interp.specs.AnsweredCalls.{AnsweredCall, Reserved, Submitted, Discarded, SentOut, Queried, note_of, notes_of}
 use Rattle.rb_interp.specs.RunTraces.{held_once_made, IsMade, AreMade, traced_answer, run_under}
 use Rattle.rb_cost.specs.declared.cost.Cost.{Cost}
-use Rattle.rb_cost.specs.Asking.{is_on, bytes_on}
+use Rattle.rb_cost.specs.Requests.{is_on, bytes_on}
 use Rattle.rb_cost.specs.Cost.{IsCost}
 use Rattle.rb_cost.specs.Runs.{Moment, call_at, asked_by_call, requested_at, IsRunWithin}
 use Rattle.rb_cost.specs.RunMoments.{answered_by, calls_in, HasMoments, EndsAtMoment}

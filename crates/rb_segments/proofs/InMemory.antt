@@ -5,7 +5,7 @@ use Rattle.std.proofs.lemmas.List.{map-append, take_all, take_more}
 use Rattle.rb_segments.specs.Known.{stored}
 use Rattle.rb_segments.specs.MemorySegments.{memory_segment}
 use Rattle.rb_segments.specs.declared.memory_store.MemorySegment.{MemorySegment}
-use Rattle.rb_segments.specs.declared.stored.StoredSegment.{StoredSegment}
+use Rattle.rb_segments.specs.declared.stored_segment.StoredSegment.{StoredSegment}
 
 -- a list ends with its last element
 pub last_of : {X : Type 0} (xs : List X) (x : X) → 0 < length xs → x ≡ get_or xs (length xs - 1) x → xs ≡ take (length xs - 1) xs ++ x ∷ []

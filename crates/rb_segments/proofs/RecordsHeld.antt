@@ -40,7 +40,7 @@ module _ (size start : ℕ) (deleted closed : List Segment) (opened : ℕ) (byte
         ∙ (sym (tape-append size h.in_open (item ∷ [])) ∙ sym (append-nil (tape size (h.in_open ++ item ∷ [])))));
   }
 
-  -- a beginning of a record in the open segment
+  -- an incomplete record in the open segment
   pub breaks : (part : List ℕ) → HoldsRecords size start deleted (directory opened closed bytes) items [] → HoldsRecords size start deleted (directory opened closed (bytes ++ part)) items part
   breaks part h = record {
     in_closed = h.in_closed;

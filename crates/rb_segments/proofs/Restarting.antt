@@ -1,4 +1,4 @@
--- What a tape that goes on after a restart has written.
+-- What a tape that continues after a restart has written.
 use Rattle.std.proofs.Common.{◌≡◌, ℕ, ◌+◌, List, [], ◌∷◌, ◌++◌, length, take, refl, sym, ap, ◌∙◌, subst, append-nil, arith, length-append}
 use Rattle.std.specs.Prelude.{map, Option, None, Some, IfSome}
 use Rattle.std.proofs.lemmas.List.{map-append}
@@ -9,7 +9,7 @@ use Rattle.rb_tape.specs.declared.fault.TapeFault.{TapeFault}
 use Rattle.rb_tape.specs.LongestTape.{IsReadThrough}
 use Rattle.rb_segments.specs.Segments.{Segment}
 use Rattle.rb_segments.specs.Known.{HavePositions, IsNewest, Reopens, stored}
-use Rattle.rb_segments.specs.declared.stored.StoredSegment.{StoredSegment}
+use Rattle.rb_segments.specs.declared.stored_segment.StoredSegment.{StoredSegment}
 use Rattle.rb_segments.specs.SegmentTape.{SegmentTape, directory}
 use Rattle.rb_segments.specs.Restart.{AreWholeRecords, EndsAt, Resumes}
 use Rattle.rb_segments.proofs.Directories.{whole_of}

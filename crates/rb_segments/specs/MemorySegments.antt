@@ -1,4 +1,4 @@
--- A segment in memory, as the segment that it is (own).
+-- The segment that a value in memory represents (own).
 use Rattle.rb_segments.specs.Segments.{Segment}
 use Rattle.rb_segments.specs.declared.memory_store.MemorySegment.{MemorySegment}
 

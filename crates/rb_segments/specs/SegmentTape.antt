@@ -1,13 +1,13 @@
--- A ring's tape that is written in segments: what its writer is, and what a call leaves (own).
+-- A ring's tape that is written in segments: its writer, and the effect of a call (own).
 use Rattle.std.specs.Prelude.{ℕ, ◌≡◌, ◌-◌, ◌%◌, ◌^◌, ◌==◌, ◌&&◌, Bool, nat_le, nat_lt, if◌then◌else◌, List, [], ◌∷◌, ◌++◌, length, Option, None, Some}
 use Rattle.rb_history.specs.TapeBytes.{Item, end_of, tape}
 use Rattle.rb_segments.specs.Segments.{AreSegmentsOf, Directory, HoldsRecords, Segment}
 use Rattle.rb_segments.specs.declared.fault.SegmentFault.{SegmentFault}
 use Rattle.rb_segments.specs.declared.plan.SegmentPlan.{SegmentPlan}
 
--- A writer of segments: the store, what the open segment is written to, the ring's size, the position of the oldest segment when it began, the
--- positions of the closed segments and of the open one, the position of the next record, how segments are rolled and deleted, what ended the tape, and
--- how many records were not written since.
+-- A writer of segments: the store, the file of the open segment, the ring's size, the position of the oldest segment
+-- when the writer was made, the positions of the closed segments and of the open one, the position of the next record,
+-- when segments are rolled and deleted, the fault that ended the tape, and how many records were not written since.
 pub record SegmentTape (S F : Type 0) : Type 0 where
   pub store : S
   pub writer : F
@@ -20,7 +20,7 @@ pub record SegmentTape (S F : Type 0) : Type 0 where
   pub fault : Option SegmentFault
   pub unwritten : ℕ
 
--- a writer for a ring of this size, by this plan, which no fault has ended
+-- a writer for a ring of this size with this plan, whose tape no fault has ended
 pub record IsSetUp {S F : Type 0} (size : ℕ) (plan : SegmentPlan) (t : SegmentTape S F) : Type 0 where
   pub size_is : t.size ≡ size
   pub plan_is : t.plan ≡ plan
@@ -36,28 +36,29 @@ may_start position = (position % 8 == 0) && nat_le position (2 ^ 61)
 abbrev pub is_full : SegmentPlan → ℕ → ℕ → Bool
 is_full plan opened position = nat_le plan.segment (position - opened) && may_start position
 
--- the position of the open segment once the next record comes at `position`
+-- the position of the open segment when the next record is at `position`
 abbrev pub opened_after : SegmentPlan → ℕ → ℕ → ℕ
 opened_after plan opened position = if is_full plan opened position then position else opened
 
--- the closed segments then, before any is deleted
+-- the closed segments at that point, before any is deleted
 abbrev pub closed_after : SegmentPlan → List ℕ → ℕ → ℕ → List ℕ
 closed_after plan closed opened position = if is_full plan opened position then closed ++ opened ∷ [] else closed
 
--- the closed segments that stay: the oldest are deleted until what is left, up to `position`, is within `keep` bytes. Of segments at 0, 64 and 128,
--- the open one at 192 and position 200, those from 128 on stay within 100
+-- The closed segments that remain: the oldest are deleted until those that are left, together with the open one, have
+-- at most `keep` bytes. For example, with closed segments at 0, 64 and 128, the open one at 192, the next record at 200
+-- and a `keep` of 100, only the one at 128 remains.
 abbrev pub kept : ℕ → ℕ → List ℕ → List ℕ
 kept keep position [] = []
 kept keep position (oldest ∷ closed) = if nat_lt keep (position - oldest) then kept keep position closed else oldest ∷ closed
 
--- the first of these positions, or another one if there is none
+-- the first of these positions, or the given one if the list is empty
 abbrev pub first_or : ℕ → List ℕ → ℕ
 first_or other [] = other
 first_or other (position ∷ positions) = position
 
 -- ---- what the directory holds
 
--- a value of two that are known
+-- a function of two values, if both are known
 abbrev pub both : {A B C : Type 0} → Option A → Option B → (A → B → C) → Option C
 both None b f = None
 both (Some a) None f = None
@@ -67,16 +68,16 @@ both (Some a) (Some b) f = Some (f a b)
 abbrev pub directory : ℕ → List Segment → List ℕ → Directory
 directory opened closed bytes = record { closed = closed; newest = record { position = opened; bytes = bytes } }
 
--- The directory of a store and the file of its open segment, which has this position, if both are known. `segments` are the closed segments that a
--- store has, and `contents` the bytes that a file has.
+-- The directory of a store and the file of its open segment, which has this position, if both are known. `segments` are
+-- the closed segments of a store, and `contents` the bytes of a file.
 abbrev pub directory_at : {S F : Type 0} → (S → Option (List Segment)) → (F → Option (List ℕ)) → S → F → ℕ → Option Directory
 directory_at segments contents store writer opened = both (segments store) (contents writer) (directory opened)
 
 abbrev pub directory_of : {S F : Type 0} → (S → Option (List Segment)) → (F → Option (List ℕ)) → SegmentTape S F → Option Directory
 directory_of segments contents t = directory_at segments contents t.store t.writer t.opened
 
--- The directory, with the deleted segments in front of it, holds these records from `start` on, all of them unless a fault ended the tape; then it holds
--- some first of them and a beginning of the next one, and the others are counted as unwritten.
+-- The directory, preceded by the deleted segments, holds all of these records from `start` on, unless a fault ended the
+-- tape. In that case it holds a prefix of them and part of the next one, and the others are counted as unwritten.
 pub record HasWritten {S F : Type 0} (segments : S → Option (List Segment)) (contents : F → Option (List ℕ)) (start : ℕ) (deleted : List Segment) (items : List Item) (t : SegmentTape S F) : Type 0 where
   pub directory : Directory
   pub known : directory_of segments contents t ≡ Some directory
@@ -91,11 +92,12 @@ pub record HasWritten {S F : Type 0} (segments : S → Option (List Segment)) (c
   pub all : t.fault ≡ None → left ≡ []
   pub counted : t.unwritten ≡ length left
 
--- one more record is written, or counted as unwritten, and some of the oldest segments are deleted
+-- a record is written, or counted as unwritten, and some of the oldest segments may be deleted
 abbrev pub WritesRecord : {S F : Type 0} → (S → Option (List Segment)) → (F → Option (List ℕ)) → SegmentTape S F → Item → SegmentTape S F → Type 0
 WritesRecord segments contents old item new = (start : ℕ) (deleted : List Segment) (items : List Item) →
     HasWritten segments contents start deleted items old → (gone : List Segment) × HasWritten segments contents start (deleted ++ gone) (items ++ item ∷ []) new
 
--- A tape that ended in order: the store's segments, with the deleted ones in front of them, are whole tapes of these records from `start` on.
+-- A tape that ended without a fault: the store's segments, preceded by the deleted ones, are complete tapes of these
+-- records from `start` on.
 abbrev pub HasEnded : {S : Type 0} → (S → Option (List Segment)) → ℕ → ℕ → List Segment → List Item → S → Type 0
 HasEnded segments size start deleted items store = (closed : List Segment) × (segments store ≡ Some closed) × AreSegmentsOf size start (deleted ++ closed) items

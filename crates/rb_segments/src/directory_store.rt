@@ -3,7 +3,7 @@
 use crate::names::{segment_path, segment_position};
 use crate::segment_file::SegmentFile;
 use crate::store::SegmentStore;
-use crate::stored::StoredSegment;
+use crate::stored_segment::StoredSegment;
 use rb_io::DeviceFault;
 use std::alloc::Global;
 use std::fs::{File, OpenFile, OpenOptions};
@@ -11,11 +11,11 @@ use std::io::{ErrorKind, Read, Seek, SeekFrom};
 use std::rt::Files;
 use std::{fs, io};
 
-/// The number of bytes of names that are read at a time.
+/// The size in bytes of the buffer for file names.
 const PIECE: usize = 4096;
 
-/// Keeps the segments of a ring as files of a directory, `FOLDER/RING.POSITION.tape`. No contract says which bytes the
-/// file system has.
+/// A store that keeps the segments of a ring as the files `FOLDER/RING.POSITION.tape` of a directory. Contracts say
+/// nothing about the bytes in the file system.
 #[derive(Drop)]
 pub struct DirectoryStore<'a, R> {
     rt: &'a R,
@@ -27,7 +27,7 @@ pub struct DirectoryStore<'a, R> {
 }
 
 impl<'a, R: Files> DirectoryStore<'a, R> {
-    /// Returns the store of the ring's segments in an existing directory. Nothing is read yet.
+    /// Returns a store for the ring's segments in an existing directory, without reading it.
     pub fn new(rt: &'a R, alloc: Global, folder: &'a str, ring: &'a str) -> DirectoryStore<'a, R> {
         DirectoryStore {
             rt,
@@ -38,8 +38,8 @@ impl<'a, R: Files> DirectoryStore<'a, R> {
         }
     }
 
-    // Stores the error of a failed call.
-    fn noted<T>(&mut self, answer: io::Result<T>) -> Result<T, DeviceFault> {
+    // Converts the result of a system call, and keeps its error.
+    fn keep_error<T>(&mut self, answer: io::Result<T>) -> Result<T, DeviceFault> {
         match answer {
             Ok(value) => Ok(value),
             Err(error) => {
@@ -141,12 +141,12 @@ impl<'a, R: Files> SegmentStore<SegmentFile<R::File>> for DirectoryStore<'a, R> 
 
     fn create(&mut self, position: u64) -> Result<SegmentFile<R::File>, DeviceFault> {
         let created = self.create_file(position);
-        self.noted(created)
+        self.keep_error(created)
     }
 
     fn sync(&mut self, file: &SegmentFile<R::File>) -> Result<(), DeviceFault> {
         let synced = file.sync();
-        self.noted(synced)
+        self.keep_error(synced)
     }
 
     fn close(&mut self, _position: u64, _file: &SegmentFile<R::File>) -> Result<(), DeviceFault> {
@@ -155,21 +155,21 @@ impl<'a, R: Files> SegmentStore<SegmentFile<R::File>> for DirectoryStore<'a, R> 
 
     fn delete_oldest(&mut self, position: u64) -> Result<(), DeviceFault> {
         let deleted = self.delete_file(position);
-        self.noted(deleted)
+        self.keep_error(deleted)
     }
 
     fn list(&mut self, alloc: Global) -> Result<Vec<StoredSegment>, DeviceFault> {
         let listed = self.list_files(alloc);
-        self.noted(listed)
+        self.keep_error(listed)
     }
 
     fn read_newest(&mut self, alloc: Global, position: u64) -> Result<Vec<u8>, DeviceFault> {
         let read = self.read_file(alloc, position);
-        self.noted(read)
+        self.keep_error(read)
     }
 
     fn reopen(&mut self, position: u64, length: u64) -> Result<SegmentFile<R::File>, DeviceFault> {
         let reopened = self.reopen_file(position, length);
-        self.noted(reopened)
+        self.keep_error(reopened)
     }
 }

@@ -1,9 +1,9 @@
-//! Why a tape in segments ends, or is not opened.
+//! Why a tape in segments ended, or could not be opened.
 
 use std::alloc::AllocError;
 use thiserror::Error;
 
-/// Why the tape of a ring ended. Later records are counted and not written.
+/// The fault that ended a ring's tape. Later records are counted but not written.
 #[derive(Clone, Copy, Debug, PartialEq, Eq, Error)]
 pub enum SegmentFault {
     /// A write to the open segment failed, or wrote nothing.
@@ -21,7 +21,7 @@ pub enum SegmentFault {
     /// The oldest segment could not be deleted.
     #[error("a segment could not be deleted")]
     Delete,
-    /// A record is as long as the ring. No ring grants one.
+    /// A record is as long as the ring, which no ring grants.
     #[error("a record is as long as the ring")]
     TooLong,
     /// Out of memory for the list of closed segments.
@@ -29,14 +29,15 @@ pub enum SegmentFault {
     Memory,
 }
 
-/// Why a store was not opened.
+/// The reason why a store could not be opened.
 #[derive(Clone, Copy, Debug, PartialEq, Eq, Error)]
 pub enum OpeningFault {
     /// A call of the store failed.
     #[error("a segment could not be listed, read, created or opened")]
     Device,
-    /// The name of the newest segment, or the end of its last whole record, is no position at which a tape may start.
-    #[error("no tape may start at the newest segment {0}, or at its end")]
+    /// The name of the newest segment, or the end of its last complete record, is not a position at which a tape may
+    /// start.
+    #[error("a tape cannot start at {0}, the position or the end of the newest segment")]
     Position(u64),
     /// Out of memory.
     #[error("out of memory")]

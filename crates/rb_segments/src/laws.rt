@@ -1,10 +1,10 @@
-//! What the segments of a ring's tape are together.
+//! The law of joined segments.
 
 ghost use Rattle.std.specs.Prelude.{◌≡◌, ℕ, List};
 ghost use Rattle.rb_history.specs.TapeBytes.{tape, Item};
 ghost use Rattle.rb_segments.specs.Segments.{AreSegmentsOf, joined, Segment};
 
-/// The law of joined segments: if segments hold these records, their bytes, joined in order, are the tape of the records.
+/// States that the concatenated bytes of segments which hold these records are the tape of the records.
 ///
 /// The function does nothing; its contract is the law.
 pub fn joined_segments_are_the_tape()

@@ -1,5 +1,13 @@
-//! The tape of a ring in segments: files of a directory, each a whole tape by itself, named by the position of its first record
-//! (`specs/Segments.antt`).
+//! Writes the tape of a ring in segments: files of a directory, each a complete tape that is named by the position of
+//! its first record (`specs/Segments.antt`).
+//!
+//! A `SegmentWriter` writes segments, rolls them and deletes old ones by a `SegmentPlan`; `SegmentWriter::open`
+//! continues a tape after a restart. A `SegmentStore` keeps the segments: a `DirectoryStore` as files, a `MemoryStore`
+//! in memory.
+//!
+//! Proved, for a store whose segments are known to contracts: the segments, preceded by the deleted ones, hold exactly
+//! the records that were put, unless a fault ended the tape. A restart loses no complete record. Concatenated segments
+//! are the tape of their records (`joined_segments_are_the_tape`).
 #![tactic(auto)]
 
 mod directory_store;
@@ -7,13 +15,13 @@ mod fault;
 mod laws;
 mod memory_store;
 mod names;
-mod opening;
 mod plan;
+mod restart;
 mod ring_files;
-mod rolling;
+mod rotation;
 mod segment_file;
 mod store;
-mod stored;
+mod stored_segment;
 mod writer;
 
 pub use directory_store::DirectoryStore;
@@ -27,5 +35,5 @@ pub use ring_files::{
 };
 pub use segment_file::SegmentFile;
 pub use store::SegmentStore;
-pub use stored::StoredSegment;
+pub use stored_segment::StoredSegment;
 pub use writer::SegmentWriter;

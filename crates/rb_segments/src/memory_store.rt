@@ -5,7 +5,7 @@ ghost use Rattle.rb_segments.specs.Known.{stored};
 ghost use Rattle.rb_segments.specs.MemorySegments.{memory_segment};
 
 use crate::store::SegmentStore;
-use crate::stored::StoredSegment;
+use crate::stored_segment::StoredSegment;
 use rb_io::{DeviceFault, Outgoing};
 use std::alloc::{AllocError, Global};
 use std::collections::VecDeque;
@@ -24,7 +24,7 @@ pub struct MemorySegment {
 /// A file in memory, to which a segment is written.
 #[derive(Drop)]
 pub struct MemoryFile {
-    /// What was written.
+    /// The bytes that were written.
     pub bytes: Vec<u8>,
 }
 
@@ -59,14 +59,14 @@ impl Outgoing for MemoryFile {
     }
 }
 
-/// Keeps segments in memory, the oldest first. All of its bytes are known to contracts.
+/// A store that keeps segments in memory, the oldest first. Contracts know all of its bytes.
 #[derive(Drop)]
 pub struct MemoryStore {
     /// The closed segments.
     pub closed: VecDeque<MemorySegment>,
     /// The positions of the segments that were created and not closed.
     pub created: VecDeque<u64>,
-    /// Where memory is allocated.
+    /// The allocator.
     pub alloc: Global,
 }
 
@@ -164,7 +164,7 @@ impl SegmentStore<MemoryFile> for MemoryStore {
     }
 }
 
-// Lists these segments.
+// Returns a listing of these segments.
 fn listed(alloc: Global, closed: &VecDeque<MemorySegment>) -> Result<Vec<StoredSegment>, AllocError>
     ensures listed { IfOk result (λ list. list.items ≡ map stored (map memory_segment closed.now.items)) }
 {
@@ -194,7 +194,7 @@ fn add(
     Ok(())
 }
 
-// Copies the bytes.
+// Returns a copy of the bytes.
 fn copied(alloc: Global, bytes: &[u8]) -> Result<Vec<u8>, AllocError>
     ensures { IfOk result (λ copy. copy.items ≡ bytes.now) }
 {

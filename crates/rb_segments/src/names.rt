@@ -25,7 +25,7 @@ pub(crate) fn ring_path(
     format!(in alloc; "{folder}/{ring}.{ending}")
 }
 
-/// Returns the position in a file's name, or `None` if the file is no segment of this ring.
+/// Returns the position in a file's name, or `None` if the file is not a segment of this ring.
 pub(crate) fn segment_position(ring: &str, name: &str) -> Option<u64> {
     let digits = name
         .strip_prefix(ring)?

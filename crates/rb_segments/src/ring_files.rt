@@ -12,7 +12,7 @@ use thiserror::Error as ErrorText;
 /// The first words of a ring's file, with the version of the format.
 const WORDS: &str = "heskavo-segments 1 size ";
 
-/// The numbers of a ring in its file.
+/// The size and the start of a ring, as its file stores them.
 #[derive(Clone, Copy, Debug, PartialEq, Eq)]
 pub struct SegmentedRing {
     /// The ring's size in bytes.
@@ -21,19 +21,19 @@ pub struct SegmentedRing {
     pub start: u64,
 }
 
-/// Why a ring's directory was refused.
+/// The reason why a ring's directory was refused.
 #[derive(Debug, Drop, ErrorText)]
 pub enum DirectoryFault {
     /// Another host writes to the folder.
     #[error("another host writes to this folder")]
     Locked,
-    /// The folder has the ring with this other size.
-    #[error("the ring of this folder has a size of {0}")]
+    /// The folder has a ring of this name with this other size.
+    #[error("the ring of this folder has another size: {0}")]
     Size(u64),
-    /// The ring's file does not hold the line that a host writes.
+    /// The ring's file does not have the format that hosts write.
     #[error("the file of the ring is damaged")]
     Damaged,
-    /// A call of the system failed.
+    /// A system call failed.
     #[error("{0}")]
     Device(Error),
 }
@@ -44,7 +44,7 @@ impl From<Error> for DirectoryFault {
     }
 }
 
-/// Locks the folder for this host until the file is dropped.
+/// Locks the folder for this host. Returns the lock file, which keeps the lock until it is dropped.
 pub fn lock_folder<R: Files<File = File>>(
     rt: &R,
     alloc: Global,
@@ -59,7 +59,7 @@ pub fn lock_folder<R: Files<File = File>>(
     }
 }
 
-/// Reads the numbers of a ring from its file, or returns `None` if it has none.
+/// Returns a ring's size and start from its file, or `None` if it has no file.
 pub fn ring_numbers<R: Files>(
     rt: &R,
     alloc: Global,
@@ -67,7 +67,7 @@ pub fn ring_numbers<R: Files>(
     ring: &str,
 ) -> Result<Option<SegmentedRing>, DirectoryFault> {
     let path = ring_path(alloc, folder, ring, "ring").map_err(Error::from)?;
-    let Some(text) = read_if_there(rt, alloc, path.as_str())? else {
+    let Some(text) = read_if_exists(rt, alloc, path.as_str())? else {
         return Ok(None);
     };
     match parse_numbers(text.as_str()) {
@@ -76,8 +76,10 @@ pub fn ring_numbers<R: Files>(
     }
 }
 
-/// Creates a ring's file in the folder. If there is one with this size, removes the mark of an orderly end instead.
-/// Returns the numbers in the file. A ring of another size is refused, and nothing changes.
+/// Creates a ring's file in the folder, and returns the size and the start that the file holds.
+///
+/// If the ring has a file with this size already, removes the mark of an orderly end instead. Refuses a ring of another
+/// size without changing anything.
 pub fn enter_ring<R: Files>(
     rt: &R,
     alloc: Global,
@@ -114,7 +116,7 @@ pub fn mark_end<R: Files>(
     put_file(rt, alloc, folder, ring, "end", text.as_str())
 }
 
-/// Returns the position at which the ring's tape ended orderly, or `None` if it did not.
+/// Returns the position at which the ring's tape ended in order, or `None` if it did not.
 pub fn marked_end<R: Files>(
     rt: &R,
     alloc: Global,
@@ -122,7 +124,7 @@ pub fn marked_end<R: Files>(
     ring: &str,
 ) -> io::Result<Option<u64>> {
     let path = ring_path(alloc, folder, ring, "end")?;
-    let Some(text) = read_if_there(rt, alloc, path.as_str())? else {
+    let Some(text) = read_if_exists(rt, alloc, path.as_str())? else {
         return Ok(None);
     };
     Ok(
@@ -132,7 +134,8 @@ pub fn marked_end<R: Files>(
     )
 }
 
-// Writes a file under another name, syncs it, and renames it: readers see the whole file or the old one.
+// Writes a file under a temporary name, syncs it, and renames it, so that readers see either the old file or the
+// complete new one.
 fn put_file<R: Files>(
     rt: &R,
     alloc: Global,
@@ -151,7 +154,7 @@ fn put_file<R: Files>(
 }
 
 // Returns the text of a file, or `None` if there is none.
-fn read_if_there<R: Files>(rt: &R, alloc: Global, path: &str) -> io::Result<Option<String>> {
+fn read_if_exists<R: Files>(rt: &R, alloc: Global, path: &str) -> io::Result<Option<String>> {
     let mut file = match File::open(rt, path) {
         Ok(file) => file,
         Err(error) if error.kind() == ErrorKind::NotFound => return Ok(None),

@@ -21,7 +21,7 @@ impl<F: Write + OpenFile + Drop> SegmentFile<F> {
         Ok(SegmentFile { out, handle })
     }
 
-    /// Syncs the file's data to the disk. Bytes in the buffer are not part of it.
+    /// Syncs the file's data to the disk. Does not flush the buffer.
     pub(crate) fn sync(&self) -> io::Result<()> {
         self.handle.sync_all()
     }

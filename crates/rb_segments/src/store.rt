@@ -1,14 +1,14 @@
-//! Where segments are kept.
+//! The trait of stores that keep segments.
 
 ghost use Rattle.std.specs.Prelude.{◌≡◌, [], ℕ, List, Option, None, Some, IfOk, IfSome, OnErr, OnOk, map};
 ghost use Rattle.rb_segments.specs.Segments.{Segment};
 ghost use Rattle.rb_segments.specs.Known.{AddsSegment, ClosesFirst, Creates, IsFirstCreated, IsNewest, IsOldest, RemovesOldest, Reopens, stored};
 
-use crate::stored::StoredSegment;
+use crate::stored_segment::StoredSegment;
 use rb_io::{DeviceFault, Outgoing};
 use std::alloc::Global;
 
-/// Stores segments. `F` is the file of a segment that is being written.
+/// A store of segments. `F` is the type of a file to which a segment is being written.
 pub trait SegmentStore<F: Outgoing> {
     /// The closed segments, the oldest first, if they are known.
     ghost segments: { Self → Option (List Segment) };
@@ -19,7 +19,7 @@ pub trait SegmentStore<F: Outgoing> {
     /// The segment of this file was synced.
     ghost is_synced: { Self → F → Type 0 };
 
-    /// Creates an empty segment of this position.
+    /// Creates an empty segment with this position, and returns its file.
     fn create(&mut self, position: u64) -> Result<F, DeviceFault>
         ensures segments { segments self.new ≡ segments self.old }
         ensures created { OnOk result (Creates (created self.old) position (created self.new)) }
@@ -34,8 +34,8 @@ pub trait SegmentStore<F: Outgoing> {
         ensures created { created self.new ≡ created self.old }
         ensures synced { OnOk result (is_synced self.new file.now) };
 
-    /// Closes the segment of this position. It was synced and is the oldest one that is not closed. Nothing more is
-    /// written to its file.
+    /// Closes the segment with this position, which was synced and is the oldest one that is not closed. Nothing may be
+    /// written to its file afterwards.
     fn close(&mut self, position: u64, file: &F) -> Result<(), DeviceFault>
         requires synced { is_synced self.old file.now }
         requires first { IsFirstCreated position (created self.old) }
@@ -43,26 +43,27 @@ pub trait SegmentStore<F: Outgoing> {
         ensures closed { OnOk result (AddsSegment (segments self.old) position (F.contents file.now) (segments self.new)) }
         ensures kept { OnErr result (segments self.new ≡ segments self.old) };
 
-    /// Deletes the oldest closed segment, which has this position. An error changes nothing.
+    /// Deletes the oldest closed segment, which has this position. If that fails, nothing changes.
     fn delete_oldest(&mut self, position: u64) -> Result<(), DeviceFault>
         requires oldest { IsOldest position (segments self.old) }
         ensures created { created self.new ≡ created self.old }
         ensures deleted { OnOk result (RemovesOldest (segments self.old) (segments self.new)) }
         ensures kept { OnErr result (segments self.new ≡ segments self.old) };
 
-    /// Lists the closed segments, the oldest first.
+    /// Returns a listing of the closed segments, the oldest first.
     fn list(&mut self, alloc: Global) -> Result<Vec<StoredSegment>, DeviceFault>
         ensures segments { segments self.new ≡ segments self.old }
         ensures created { created self.new ≡ created self.old }
         ensures listed { IfOk result (λ list. IfSome (segments self.old) (λ closed. list.items ≡ map stored closed)) };
 
-    /// Reads the newest closed segment, which has this position.
+    /// Returns the bytes of the newest closed segment, which has this position.
     fn read_newest(&mut self, alloc: Global, position: u64) -> Result<Vec<u8>, DeviceFault>
         ensures segments { segments self.new ≡ segments self.old }
         ensures created { created self.new ≡ created self.old }
         ensures bytes { IfOk result (λ bytes. IfSome (segments self.old) (IsNewest bytes.items)) };
 
-    /// Opens the newest closed segment, which has this position, for appending, and truncates it to `length` bytes.
+    /// Reopens the newest closed segment, which has this position, for appending, truncates it to `length` bytes, and
+    /// returns its file.
     fn reopen(&mut self, position: u64, length: u64) -> Result<F, DeviceFault>
         ensures created { OnOk result (Creates (created self.old) position (created self.new)) }
         ensures reopened { IfOk result (λ file. Reopens (segments self.old) length (F.contents file) (segments self.new)) };

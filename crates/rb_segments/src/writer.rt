@@ -1,8 +1,8 @@
-//! Writing a ring's tape in segments.
+//! A writer of a ring's tape in segments.
 
 use crate::fault::SegmentFault;
 use crate::plan::SegmentPlan;
-use crate::rolling::{end, tend};
+use crate::rotation::{end, roll_and_delete};
 use crate::store::SegmentStore;
 use rb_io::{DeviceFault, Outgoing};
 use rb_tape::{Item, TapeWriter};
@@ -10,7 +10,7 @@ use std::alloc::Global;
 use std::collections::VecDeque;
 use std::marker::Model;
 
-/// Writes the records of a ring as a tape in segments.
+/// A writer that writes the records of a ring as a tape in segments.
 #[derive(Drop)]
 pub struct SegmentWriter<S: SegmentStore<F>, F: Outgoing + Drop> {
     pub(crate) store: S,
@@ -26,9 +26,9 @@ pub struct SegmentWriter<S: SegmentStore<F>, F: Outgoing + Drop> {
     // The position of the next record.
     pub(crate) position: u64,
     pub(crate) plan: SegmentPlan,
-    // Why the tape ended, if it did.
+    // The fault that ended the tape, if one did.
     pub(crate) fault: Option<SegmentFault>,
-    // The number of records that came after that.
+    // The number of records that were not completely written because of that fault.
     pub(crate) unwritten: u64,
 }
 
@@ -53,7 +53,7 @@ impl<S: SegmentStore<F>, F: Outgoing + Drop> SegmentWriter<S, F> {
     ghost use Rattle.rb_segments.specs.SegmentTape.{closed_after, first_or, HasEnded, HasWritten, IsSetUp, kept, opened_after, WritesRecord};
     ghost use Rattle.rb_segments.specs.Segments.{Segment};
 
-    /// Starts a tape in a store without segments: creates the segment of position `start`.
+    /// Returns a writer that starts a tape in a store without segments: creates the segment with position `start`.
     pub fn new(
         alloc: Global,
         mut store: S,
@@ -87,7 +87,7 @@ impl<S: SegmentStore<F>, F: Outgoing + Drop> SegmentWriter<S, F> {
         })
     }
 
-    /// Writes the next record. A fault ends the tape: later records are counted and not written.
+    /// Writes the next record. A fault ends the tape: later records are counted but not written.
     pub fn put(&mut self, item: &Item<'_>)
         requires next { item_position (item_of item.now) ≡ self.old.position }
         requires len { item_len (item_of item.now) < 2 ^ 32 }
@@ -117,7 +117,7 @@ impl<S: SegmentStore<F>, F: Outgoing + Drop> SegmentWriter<S, F> {
             self.fault = Some(SegmentFault::Write);
             return;
         }
-        self.fault = tend(
+        self.fault = roll_and_delete(
             &mut self.store,
             &mut self.tape,
             &mut self.closed,
@@ -140,8 +140,8 @@ impl<S: SegmentStore<F>, F: Outgoing + Drop> SegmentWriter<S, F> {
         }
     }
 
-    /// Ends the tape in order: flushes, syncs and closes the open segment. Returns the store, and the fault that ended the
-    /// tape, if there was one.
+    /// Ends the tape in order: flushes, syncs and closes the open segment. Returns the store, and the fault that ended
+    /// the tape, if one did.
     pub fn finish(mut self) -> (S, Option<SegmentFault>)
         ensures whole { (start : ℕ) (deleted : List Segment) (items : List TapeItem) → HasWritten S.segments F.contents start deleted items self → result.1 ≡ None → HasEnded S.segments self.size start deleted items result.0 }
         ensures first_fault { IsSome self.fault → result.1 ≡ self.fault }
@@ -183,15 +183,15 @@ impl<S: SegmentStore<F>, F: Outgoing + Drop> SegmentWriter<S, F> {
         }
     }
 
-    /// Returns the position that the oldest segment had when the writer was made: `oldest() - first()` bytes were deleted
-    /// since then.
+    /// Returns the position that the oldest segment had when the writer was made: `oldest() - first()` bytes were
+    /// deleted since then.
     pub fn first(&self) -> u64
         ensures value { result ≡ self.now.first }
     {
         self.first
     }
 
-    /// Returns why the tape ended, if it did.
+    /// Returns the fault that ended the tape, if one did.
     pub fn fault(&self) -> Option<SegmentFault>
         ensures value { result ≡ self.now.fault }
     {

@@ -19,7 +19,7 @@ use Rattle.rb_source.proofs.Side.{room_some}
 use Rattle.rb_source.specs.inner.Counted.{counted_by, given_by, IsKnownBy}
 use Rattle.rb_source.specs.inner.Look.{at_place, BeginsWith, FindsLineFeed}
 use Rattle.rb_source.specs.declared.counts.ContextCounts.{ContextCounts}
-use Rattle.rb_source.specs.declared.front.ContextPlace.{ContextPlace}
+use Rattle.rb_source.specs.declared.portion_parser.ContextPlace.{ContextPlace}
 use Rattle.std.proofs.lemmas.Bool.{true≢false}
 use Rattle.rb_source.specs.inner.Steps.{Appends, GivesNone, IsPartialSource}
 use Rattle.rb_source.specs.Framing.{Portion, HasNoLineFeed, IsPartial, IsPortion, contents, flush_length, line_feed, portion_bytes, text_of}

@@ -5,7 +5,7 @@ use Rattle.rb_source.specs.declared.framing.Framing.TheVariants.{Fixed}
 use Rattle.rb_source.specs.declared.form.Form.{Form}
 use Rattle.rb_source.specs.Stream.{FramedInput, Gives, IsFresh}
 
--- a new source over a reader that has this input came to the end of the stream, and gave these contexts until then
+-- a new source over a reader with this input reached the end of the stream, and gave these contexts on the way
 pub record GivesAll {R : Type 0} (remaining : R → Option (List ℕ)) (framing : Framing) (form : Form) (input : List ℕ) (contexts : List (List ℕ)) (ended : FramedInput R) : Type 0 where
   pub reader : R
   pub source : FramedInput R

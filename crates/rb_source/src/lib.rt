@@ -3,22 +3,22 @@
 
 mod agreement;
 mod counts;
-mod emit;
+mod delivery;
 mod form;
-mod framed;
+mod framed_reader;
 mod framing;
-mod front;
-mod listed;
+mod list_source;
 mod long;
 mod piece;
+mod portion_parser;
 mod source;
 mod window;
 
 pub use agreement::sources_agree;
 pub use counts::ContextCounts;
 pub use form::{Fit, Form};
-pub use framed::FramedReader;
+pub use framed_reader::FramedReader;
 pub use framing::Framing;
-pub use listed::ListSource;
+pub use list_source::ListSource;
 pub use piece::{PIECE_SIZE, Piece};
 pub use source::{Filled, Source, SourceFault};

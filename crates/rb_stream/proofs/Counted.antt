@@ -12,7 +12,7 @@ use Rattle.rb_verifier.specs.Subject.{Subject}
 use Rattle.rb_ledger.specs.Seats.{WorkerSeat}
 use Rattle.rb_dealing.specs.Dealt.{dealt_to, saturated}
 use Rattle.rb_dealing.specs.Streams.{RunsStream}
-use Rattle.rb_dealing.specs.declared.dealing.Dealt.{Dealt}
+use Rattle.rb_dealing.specs.declared.reader.Dealt.{Dealt}
 use Rattle.rb_dealing.specs.declared.lane.Lane.{Lane}
 use Rattle.rb_stream_worker.specs.Results.{raised, times_of, times_from}
 use Rattle.rb_stream_worker.specs.Tasks.{TaskRun}

@@ -15,8 +15,8 @@ use Rattle.rb_jobs.specs.SeatHelpers.{fails, call_total, refused_in}
 use Rattle.rb_source.specs.declared.source.SourceFault.{SourceFault}
 use Rattle.rb_dealing.specs.Dealt.{dealt_to, saturated}
 use Rattle.rb_dealing.specs.Streams.{IsEndOf}
-use Rattle.rb_dealing.specs.declared.dealing.Dealt.{Dealt}
-use Rattle.rb_dealing.specs.declared.dealing.DealEnd.{DealEnd}
+use Rattle.rb_dealing.specs.declared.reader.Dealt.{Dealt}
+use Rattle.rb_dealing.specs.declared.reader.DealEnd.{DealEnd}
 use Rattle.rb_workers.specs.declared.opened.Opened.{Opened}
 use Rattle.rb_workers.specs.declared.workers.Worker.{Worker}
 use Rattle.rb_workers.specs.declared.consumer_task.ConsumerTask.{ConsumerTask}

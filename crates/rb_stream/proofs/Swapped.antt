@@ -7,7 +7,7 @@ use Rattle.rb_jobs.specs.SeatHelpers.{AtRings}
 use Rattle.rtrb.specs.Ring.{IsPair, received}
 use Rattle.rb_dealing.specs.Queues.{AreEmptyQueues, AreFeedsOf}
 use Rattle.rb_dealing.specs.Streams.{RunsStream}
-use Rattle.rb_dealing.specs.declared.dealing.Dealt.{Dealt}
+use Rattle.rb_dealing.specs.declared.reader.Dealt.{Dealt}
 use Rattle.rb_dealing.specs.declared.lane.Lane.{Lane}
 use Rattle.rb_workers.specs.declared.workers.Worker.{Worker}
 use Rattle.rb_stream_worker.specs.ContextRuns.{IsNewCounts, IsProgramFor, IsReadyWorker, WorkerRuns}

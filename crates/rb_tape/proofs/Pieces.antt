@@ -49,10 +49,10 @@ slice-behind d p k same = take_all (length d - k) (drop k d) (omega (arith, leng
 -- ---- the three parts of a record
 
 -- the number of zeros after the header and the payload
-abbrev pub zeros_behind : Item → ℕ
-zeros_behind item = 8 * eights (item_len item) - length (bytes_before_zeros item)
+abbrev pub zeros_after : Item → ℕ
+zeros_after item = 8 * eights (item_len item) - length (bytes_before_zeros item)
 
-pub record-parts : (size : ℕ) (item : Item) → item_bytes size item ≡ header_bytes (header_of size item) ++ (bytes_before_zeros item ++ zeros (zeros_behind item))
+pub record-parts : (size : ℕ) (item : Item) → item_bytes size item ≡ header_bytes (header_of size item) ++ (bytes_before_zeros item ++ zeros (zeros_after item))
 record-parts size (Event position bytes) = append_assoc (header_bytes (header_of size (Event position bytes))) bytes (zeros (padding (length bytes)))
 record-parts size (Skip position len) =
     let up : len ≤ 8 * eights len = omega arith in
@@ -63,7 +63,7 @@ record-parts size (Skip position len) =
 -- some bytes of the payload are written
 pub payload-out : (size : ℕ) (item : Item) (piece : List ℕ) (a b : Option (List ℕ)) (at k n : ℕ) → piece ≡ drop k (bytes_before_zeros item) → at ≡ 8 + k → k ≤ length (bytes_before_zeros item) → n ≤ length piece → Appends a b (take n piece) → Appends a b (take n (drop at (item_bytes size item)))
 payload-out size item piece a b at k n same here within few gone =
-    let part = piece-of-part (header_bytes (header_of size item)) (bytes_before_zeros item) (zeros (zeros_behind item)) (item_bytes size item) k at (record-parts size item) here within in
+    let part = piece-of-part (header_bytes (header_of size item)) (bytes_before_zeros item) (zeros (zeros_after item)) (item_bytes size item) k at (record-parts size item) here within in
     out-of-text (item_bytes size item) piece a b at n (subst (λ x. take (length x) (drop at (item_bytes size item)) ≡ x) (sym same) part) few gone
 
 -- some of the zeros are written
@@ -72,8 +72,8 @@ filling-out size item a b at n j c behind small few fits gone =
     let h = header_bytes (header_of size item) in
     let p = bytes_before_zeros item in
     let front = length-append h p in
-    zeros-out (h ++ p) (item_bytes size item) (zeros_behind item) (at - (8 + length p)) at n j c a b
-    (record-parts size item ∙ sym (append_assoc h p (zeros (zeros_behind item)))) (omega (arith, front)) small (omega arith) fits gone
+    zeros-out (h ++ p) (item_bytes size item) (zeros_after item) (at - (8 + length p)) at n j c a b
+    (record-parts size item ∙ sym (append_assoc h p (zeros (zeros_after item)))) (omega (arith, front)) small (omega arith) fits gone
 
 -- ---- a record as a whole
 

@@ -8,7 +8,7 @@ use Rattle.std.proofs.KnownBytes.{Appends-nil, Appends-trans}
 use Rattle.rb_history.specs.TapeBytes.{Item, item_bytes, item_span, tape, end_of, IsItemAt, AreItemsFrom}
 use Rattle.rb_history.proofs.HeaderLaws.{length-item_bytes, tape-append, end_of-nil, end_of-cons, end_of-append, AreItemsFrom-append}
 use Rattle.rb_tape.specs.TapeOutput.{TapeOutput}
-use Rattle.rb_tape.specs.TapeCalls.{rest_of, still_missing, end_behind, end_of_begun, BeginsItems, TapeCall, MakesTapeCall, MakesCalls, failures_after, records_begun, all_begun, fresh_tape, CallsLeaveTape}
+use Rattle.rb_tape.specs.TapeCalls.{rest_of, still_missing, end_after, end_of_begun, BeginsItems, TapeCall, MakesTapeCall, MakesCalls, failures_after, records_begun, all_begun, fresh_tape, CallsLeaveTape}
 use Rattle.rb_tape.specs.TapeCalls.TapeCall.{Put, Resume}
 
 -- ---- one record
@@ -19,16 +19,16 @@ cut_at xs from sent more within =
     sym (drop-append-le from (take sent xs) (drop sent xs) (omega (arith, length-take-le sent xs within))) ∙ ap (drop from) (take-append-drop sent xs)
 
 -- the missing bytes of a record whose first bytes were written
-rest_behind : {A E : Type 0} (old_size new_size sent : ℕ) (unfinished : Option Item) (item : Item) (answer : Result A E) → unfinished ≡ (if is_ok answer then None else Some item) → new_size ≡ old_size
+rest_after : {A E : Type 0} (old_size new_size sent : ℕ) (unfinished : Option Item) (item : Item) (answer : Result A E) → unfinished ≡ (if is_ok answer then None else Some item) → new_size ≡ old_size
     → OnOk answer (sent ≡ item_span item) → rest_of new_size sent unfinished ≡ drop sent (item_bytes old_size item)
-rest_behind old_size new_size sent unfinished item (Ok _) is same all =
+rest_after old_size new_size sent unfinished item (Ok _) is same all =
     ap (rest_of new_size sent) is ∙ sym (drop_all sent (item_bytes old_size item) (let n = length-item_bytes old_size item in omega (arith, n, all)))
-rest_behind old_size new_size sent unfinished item (Err _) is same all = ap (rest_of new_size sent) is ∙ ap (λ s. drop sent (item_bytes s item)) same
+rest_after old_size new_size sent unfinished item (Err _) is same all = ap (rest_of new_size sent) is ∙ ap (λ s. drop sent (item_bytes s item)) same
 
 ends_behind : {A E : Type 0} (position after : ℕ) (unfinished : Option Item) (item : Item) (answer : Result A E) → unfinished ≡ (if is_ok answer then None else Some item)
-    → after ≡ (if is_ok answer then position + item_span item else position) → end_behind after unfinished ≡ position + item_span item
-ends_behind position after unfinished item (Ok _) is moved = ap (end_behind after) is ∙ moved
-ends_behind position after unfinished item (Err _) is moved = ap (end_behind after) is ∙ ap (λ n. n + item_span item) moved
+    → after ≡ (if is_ok answer then position + item_span item else position) → end_after after unfinished ≡ position + item_span item
+ends_behind position after unfinished item (Ok _) is moved = ap (end_after after) is ∙ moved
+ends_behind position after unfinished item (Err _) is moved = ap (end_after after) is ∙ ap (λ n. n + item_span item) moved
 
 within_span : {A E : Type 0} (sent : ℕ) (item : Item) (answer : Result A E) → OnOk answer (sent ≡ item_span item) → OnErr answer (sent < item_span item) → sent ≤ item_span item
 within_span sent item (Ok _) all part = omega (arith, all)
@@ -50,7 +50,7 @@ module _ {W : Type 0} (contents : W → Option (List ℕ)) where
       record {
         out = drop from (take new.sent bytes);
         wrote = went;
-        bytes_are = ap (λ l. drop from (take new.sent bytes) ++ l) (rest_behind old.size new.size new.sent new.unfinished item answer left size all) ∙ (cut_at bytes from new.sent more within ∙ sym missing);
+        bytes_are = ap (λ l. drop from (take new.sent bytes) ++ l) (rest_after old.size new.size new.sent new.unfinished item answer left size all) ∙ (cut_at bytes from new.sent more within ∙ sym missing);
         stand = stand;
         end_is = ends_behind old.position new.position new.unfinished item answer left moved ∙ sym ends;
         size_same = size;
@@ -106,7 +106,7 @@ module _ {W : Type 0} (contents : W → Option (List ℕ)) where
           stand = b.stand;
           wrote = b.wrote;
           beginning = b.bytes_are;
-          whole = λ none. (ap (rest_of now.size now.sent) none, sym (ap (end_behind now.position) none) ∙ b.end_is);
+          whole = λ none. (ap (rest_of now.size now.sent) none, sym (ap (end_after now.position) none) ∙ b.end_is);
         },
         λ oks. all_finish first now calls made refl oks,
       )
@@ -116,7 +116,7 @@ module _ {W : Type 0} (contents : W → Option (List ℕ)) {A E : Type 0} (old n
   -- a record is put after complete ones
   pub makes_put : old.unfinished ≡ None → IsItemAt old.size old.position item → Appends (contents old.writer) (contents new.writer) (take new.sent (item_bytes old.size item)) → MakesTapeCall contents old (Put item) (is_ok answer) new
   makes_put none stands went =
-      let ends : end_of_begun old ≡ old.position = ap (end_behind old.position) none in
+      let ends : end_of_begun old ≡ old.position = ap (end_after old.position) none in
       record {
         lawful = none;
         begins =
@@ -135,7 +135,7 @@ module _ {W : Type 0} (contents : W → Option (List ℕ)) {A E : Type 0} (old n
     begins =
         begins_from contents old new item old.sent answer [] went more all part left size moved
         (append-nil (still_missing old) ∙ ap (rest_of old.size old.sent) this)
-        (end_of-nil (end_of_begun old) ∙ ap (end_behind old.position) this) tt;
+        (end_of-nil (end_of_begun old) ∙ ap (end_after old.position) this) tt;
     finished = none_behind new.unfinished item answer left;
     failures_are = counted;
   }

@@ -11,8 +11,8 @@ use Rattle.rb_history.specs.TapeBytes.Item.{Event, Skip}
 use Rattle.rb_history.proofs.HeaderLaws.{length-item_bytes, length-payload_of}
 use Rattle.rb_tape.specs.declared.fault.TapeKind.{TapeKind}
 use Rattle.rb_tape.specs.declared.fault.TapeKind.TheVariants.{Busy, Page, Padding, TooLong, DiscardedBytes, Truncated, Memory}
-use Rattle.rb_tape.specs.TapeFront.{StartsWithItem, StartsWithHeader, IsHeaderAt, payload_behind, padding_behind, IsFirstTapeFault, ShowsFault, IsUndecided}
-use Rattle.rb_tape.specs.inner.FrontLook.{item_behind, HasWholeItem}
+use Rattle.rb_tape.specs.TapeFront.{StartsWithItem, StartsWithHeader, IsHeaderAt, payload_after, padding_after, IsFirstTapeFault, ShowsFault, IsUndecided}
+use Rattle.rb_tape.specs.inner.FrontLook.{item_after, HasWholeItem}
 use Rattle.rb_tape.proofs.HeaderBegins.{same_begin}
 
 -- ---- an item, and the header with which it begins
@@ -21,11 +21,11 @@ regroup : (a b c d : List ℕ) → ((a ++ b) ++ c) ++ d ≡ a ++ (b ++ (c ++ d))
 regroup a b c d = simp append_assoc
 
 -- the bytes after an item's header
-abbrev behind_item : Item → List ℕ → List ℕ
-behind_item item rest = payload_of item ++ (zeros (padding (item_len item)) ++ rest)
+abbrev after_item : Item → List ℕ → List ℕ
+after_item item rest = payload_of item ++ (zeros (padding (item_len item)) ++ rest)
 
 -- the page of a position in a ring fits in four bytes
-item_begins : (size position : ℕ) (bytes : List ℕ) (item : Item) (rest : List ℕ) → page_of size (item_position item) < 2 ^ 32 → StartsWithItem size position bytes item rest → StartsWithHeader bytes (header_of size item) (behind_item item rest)
+item_begins : (size position : ℕ) (bytes : List ℕ) (item : Item) (rest : List ℕ) → page_of size (item_position item) < 2 ^ 32 → StartsWithItem size position bytes item rest → StartsWithHeader bytes (header_of size item) (after_item item rest)
 item_begins size position bytes item rest p s = record {
   fields = record { len = s.stands.has_header; page = p };
   text = s.text ∙ regroup (header_bytes (header_of size item)) (payload_of item) (zeros (padding (item_len item))) rest;
@@ -56,23 +56,23 @@ sound_header size position item i = record {
   fits = (i.has_fitted, i.bounded);
 }
 
-item_payload : (item : Item) (rest : List ℕ) → take (item_len item) (behind_item item rest) ≡ payload_of item
+item_payload : (item : Item) (rest : List ℕ) → take (item_len item) (after_item item rest) ≡ payload_of item
 item_payload item rest =
-    ap (λ n. take n (behind_item item rest)) (sym (length-payload_of item)) ∙ take-append_seam (payload_of item) (zeros (padding (item_len item)) ++ rest)
+    ap (λ n. take n (after_item item rest)) (sym (length-payload_of item)) ∙ take-append_seam (payload_of item) (zeros (padding (item_len item)) ++ rest)
 
-item_padding : (item : Item) (rest : List ℕ) → take (padding (item_len item)) (drop (item_len item) (behind_item item rest)) ≡ zeros (padding (item_len item))
+item_padding : (item : Item) (rest : List ℕ) → take (padding (item_len item)) (drop (item_len item) (after_item item rest)) ≡ zeros (padding (item_len item))
 item_padding item rest =
     let z = zeros (padding (item_len item)) in
-    let behind : drop (item_len item) (behind_item item rest) ≡ z ++ rest =
-    ap (λ n. drop n (behind_item item rest)) (sym (length-payload_of item)) ∙ drop-append_seam (payload_of item) (z ++ rest) in
+    let behind : drop (item_len item) (after_item item rest) ≡ z ++ rest =
+    ap (λ n. drop n (after_item item rest)) (sym (length-payload_of item)) ∙ drop-append_seam (payload_of item) (z ++ rest) in
     ap (take (padding (item_len item))) behind
     ∙ (ap (λ n. take n (z ++ rest)) (sym (length-replicate (padding (item_len item)) 0)) ∙ take-append_seam z rest)
 
-item_discarded : (item : Item) (rest : List ℕ) → is_skip item ≡ true → take (item_len item) (behind_item item rest) ≡ zeros (item_len item)
+item_discarded : (item : Item) (rest : List ℕ) → is_skip item ≡ true → take (item_len item) (after_item item rest) ≡ zeros (item_len item)
 item_discarded (Event p b) rest e = absurd (false≢true e)
 item_discarded (Skip p n) rest e = item_payload (Skip p n) rest
 
-item_faultless : (size position : ℕ) (item : Item) (rest : List ℕ) (kind : TapeKind) → IsItemAt size position item → IsFirstTapeFault size position (header_of size item) (behind_item item rest) kind → ⊥
+item_faultless : (size position : ℕ) (item : Item) (rest : List ℕ) (kind : TapeKind) → IsItemAt size position item → IsFirstTapeFault size position (header_of size item) (after_item item rest) kind → ⊥
 item_faultless size position item rest Busy i x = false≢true x
 item_faultless size position item rest Page i x = x.1 (ap (page_of size) i.here)
 item_faultless size position item rest TooLong i x = x.2 (i.has_fitted, i.bounded)
@@ -84,8 +84,8 @@ item_faultless size position item rest Memory i x = x
 pub no_item_at_fault : (size position : ℕ) (bytes : List ℕ) (kind : TapeKind) (item : Item) (rest : List ℕ) → 0 < size → size ≤ 67108864 → ShowsFault size position bytes kind → StartsWithItem size position bytes item rest → ⊥
 no_item_at_fault size position bytes kind item rest p u (h, behind, b, f) s =
     let begun = item_begins size position bytes item rest (page_fits size (item_position item) p u) s in
-    let same = same_begin bytes h (header_of size item) behind (behind_item item rest) b begun in
-    item_faultless size position item rest kind s.stands (moved size position kind h (header_of size item) behind (behind_item item rest) same.0 same.1 f)
+    let same = same_begin bytes h (header_of size item) behind (after_item item rest) b begun in
+    item_faultless size position item rest kind s.stands (moved size position kind h (header_of size item) behind (after_item item rest) same.0 same.1 f)
 
 one_kind : (size position : ℕ) (h : Header) (b : List ℕ) (kind other : TapeKind) → IsFirstTapeFault size position h b kind → IsFirstTapeFault size position h b other → kind ≡ other
 one_kind size position h b Busy Busy x y = refl
@@ -176,7 +176,7 @@ pub part_cut : (size position : ℕ) (bytes : List ℕ) (h : Header) → 0 < siz
 part_cut size position bytes h p u b i l = record {
   no_item = λ item rest s.
       let begun = item_begins size position bytes item rest (page_fits size (item_position item) p u) s in
-      let same = same_begin bytes h (header_of size item) (drop 8 bytes) (behind_item item rest) b begun in
+      let same = same_begin bytes h (header_of size item) (drop 8 bytes) (after_item item rest) b begun in
       let len : h.len ≡ item_len item = ap (λ (k : Header). k.len) same.0 in
       let spans : span h.len ≡ item_span item = ap span len in
       let e = item_length size position bytes item rest s in
@@ -195,9 +195,9 @@ drop-plus m n xs l =
     ∙ (ap (drop (length (take m xs) + n)) (sym (take-append-drop m xs)) ∙ drop-append-add (take m xs) (drop m xs) n)
 
 -- the item of a header that shows no fault, if all its bytes are available and its padding is zeros
-module _ (size position : ℕ) (bytes : List ℕ) (h : Header) (b : StartsWithHeader bytes h (drop 8 bytes)) (at : IsHeaderAt size position h) (there : span h.len ≤ length bytes) (filled : padding_behind h (drop 8 bytes) ≡ zeros (padding h.len)) where
+module _ (size position : ℕ) (bytes : List ℕ) (h : Header) (b : StartsWithHeader bytes h (drop 8 bytes)) (at : IsHeaderAt size position h) (there : span h.len ≤ length bytes) (filled : padding_after h (drop 8 bytes) ≡ zeros (padding h.len)) where
   -- the three parts of the bytes
-  parts : bytes ≡ ((header_bytes h ++ payload_behind h (drop 8 bytes)) ++ zeros (padding h.len)) ++ drop (span h.len) bytes
+  parts : bytes ≡ ((header_bytes h ++ payload_after h (drop 8 bytes)) ++ zeros (padding h.len)) ++ drop (span h.len) bytes
   parts =
       let behind = drop 8 bytes in
       let long : length behind ≡ length bytes - 8 = length-drop 8 bytes in
@@ -210,7 +210,7 @@ module _ (size position : ℕ) (bytes : List ℕ) (h : Header) (b : StartsWithHe
       ∙ (drop-plus 8 (h.len + padding h.len) bytes (omega arith) ∙ drop-plus h.len (padding h.len) behind within) in
       let joined : behind ≡ take h.len behind ++ (zeros (padding h.len) ++ drop (span h.len) bytes) =
       first ∙ ap (λ x. take h.len behind ++ x) (second ∙ (ap (λ x. x ++ drop (padding h.len) (drop h.len behind)) filled ∙ ap (λ x. zeros (padding h.len) ++ x) (sym last))) in
-      b.text ∙ ap (λ x. header_bytes h ++ x) joined ∙ sym (regroup (header_bytes h) (payload_behind h behind) (zeros (padding h.len)) (drop (span h.len) bytes))
+      b.text ∙ ap (λ x. header_bytes h ++ x) joined ∙ sym (regroup (header_bytes h) (payload_after h behind) (zeros (padding h.len)) (drop (span h.len) bytes))
 
   stands : (item : Item) → item_position item ≡ position → item_len item ≡ h.len → IsItemAt size position item
   stands item p l =
@@ -220,10 +220,10 @@ module _ (size position : ℕ) (bytes : List ℕ) (h : Header) (b : StartsWithHe
       let ends = at.fits.1 in
       record { here = p; has_header = omega arith; has_fitted = omega arith; bounded = omega arith }
 
-  starts : (item : Item) → item_position item ≡ position → item_len item ≡ h.len → header_of size item ≡ h → payload_of item ≡ payload_behind h (drop 8 bytes) → StartsWithItem size position bytes item (drop (span h.len) bytes)
+  starts : (item : Item) → item_position item ≡ position → item_len item ≡ h.len → header_of size item ≡ h → payload_of item ≡ payload_after h (drop 8 bytes) → StartsWithItem size position bytes item (drop (span h.len) bytes)
   starts item p l e f = record {
     stands = stands item p l;
-    text = let own : item_bytes size item ≡ (header_bytes h ++ payload_behind h (drop 8 bytes)) ++ zeros (padding h.len) = cc in parts ∙ ap (λ x. x ++ drop (span h.len) bytes) (sym own);
+    text = let own : item_bytes size item ≡ (header_bytes h ++ payload_after h (drop 8 bytes)) ++ zeros (padding h.len) = cc in parts ∙ ap (λ x. x ++ drop (span h.len) bytes) (sym own);
   }
 
 -- ---- the two parts after a header
@@ -231,13 +231,13 @@ module _ (size position : ℕ) (bytes : List ℕ) (h : Header) (b : StartsWithHe
 filled_span : (h : Header) → span h.len - 8 ≡ h.len + padding h.len
 filled_span h = omega arith
 
-pub payload_part : (bytes p : List ℕ) (h : Header) → p ≡ take h.len (take (span h.len - 8) (drop 8 bytes)) → p ≡ payload_behind h (drop 8 bytes)
+pub payload_part : (bytes p : List ℕ) (h : Header) → p ≡ take h.len (take (span h.len - 8) (drop 8 bytes)) → p ≡ payload_after h (drop 8 bytes)
 payload_part bytes p h e =
     let behind = drop 8 bytes in
     let cut : take h.len (take (h.len + padding h.len) behind) ≡ take h.len behind = take-take h.len (h.len + padding h.len) behind (omega arith) in
     e ∙ ap (λ n. take h.len (take n behind)) (filled_span h) ∙ cut
 
-pub padding_part : (bytes p : List ℕ) (h : Header) → p ≡ drop h.len (take (span h.len - 8) (drop 8 bytes)) → p ≡ padding_behind h (drop 8 bytes)
+pub padding_part : (bytes p : List ℕ) (h : Header) → p ≡ drop h.len (take (span h.len - 8) (drop 8 bytes)) → p ≡ padding_after h (drop 8 bytes)
 padding_part bytes p h e = e ∙ ap (λ n. drop h.len (take n (drop 8 bytes))) (filled_span h) ∙ drop-take h.len (padding h.len) (drop 8 bytes)
 
 pub are_zeros : (p q : List ℕ) (n : ℕ) → p ≡ q → length p ≡ n → p ≡ zeros (length p) → q ≡ zeros n
@@ -261,18 +261,18 @@ chosen_length : (d : Bool) (position n : ℕ) (bytes : List ℕ) → n ≤ lengt
 chosen_length true position n bytes l = refl
 chosen_length false position n bytes l = length-take-le n bytes l
 
-item_spans : (size position : ℕ) (bytes : List ℕ) (h : Header) → HasWholeItem size position bytes h → item_span (item_behind position h (drop 8 bytes)) ≡ span h.len
+item_spans : (size position : ℕ) (bytes : List ℕ) (h : Header) → HasWholeItem size position bytes h → item_span (item_after position h (drop 8 bytes)) ≡ span h.len
 item_spans size position bytes h w =
     let there = w.there in
     let long = length-drop 8 bytes in
     ap span (chosen_length h.discard position h.len (drop 8 bytes) (omega arith))
 
-pub starts_there : (size position at : ℕ) (items r s : List ℕ) (h : Header) (item : Item) → r ≡ drop at items → s ≡ drop at items → at ≤ length items → HasWholeItem size position r h → item ≡ item_behind position h (drop 8 s) → StartsWithItem size position (drop at items) item (drop (at + span h.len) items)
+pub starts_there : (size position at : ℕ) (items r s : List ℕ) (h : Header) (item : Item) → r ≡ drop at items → s ≡ drop at items → at ≤ length items → HasWholeItem size position r h → item ≡ item_after position h (drop 8 s) → StartsWithItem size position (drop at items) item (drop (at + span h.len) items)
 starts_there size position at items r s h item e f l w i =
     let whole : HasWholeItem size position (drop at items) h = rw (← e) w in
-    let same : item ≡ item_behind position h (drop 8 (drop at items)) = i ∙ ap (λ (x : List ℕ). item_behind position h (drop 8 x)) f in
+    let same : item ≡ item_after position h (drop 8 (drop at items)) = i ∙ ap (λ (x : List ℕ). item_after position h (drop 8 x)) f in
     rw (same, drop-plus at (span h.len) items l) whole.starts
 
-pub spans_there : (size position : ℕ) (rest r s : List ℕ) (h : Header) (item : Item) → r ≡ rest → s ≡ rest → HasWholeItem size position r h → item ≡ item_behind position h (drop 8 s) → item_span item ≡ span h.len
+pub spans_there : (size position : ℕ) (rest r s : List ℕ) (h : Header) (item : Item) → r ≡ rest → s ≡ rest → HasWholeItem size position r h → item ≡ item_after position h (drop 8 s) → item_span item ≡ span h.len
 spans_there size position rest r s h item e f w i =
-    ap item_span (i ∙ ap (λ (x : List ℕ). item_behind position h (drop 8 x)) (f ∙ sym e)) ∙ item_spans size position r h w
+    ap item_span (i ∙ ap (λ (x : List ℕ). item_after position h (drop 8 x)) (f ∙ sym e)) ∙ item_spans size position r h w

@@ -16,13 +16,13 @@ rest_of size n (Some item) = drop n (item_bytes size item)
 abbrev pub still_missing : {W : Type 0} → TapeOutput W → List ℕ
 still_missing t = rest_of t.size t.sent t.unfinished
 
-abbrev pub end_behind : ℕ → Option Item → ℕ
-end_behind position None = position
-end_behind position (Some item) = position + item_span item
+abbrev pub end_after : ℕ → Option Item → ℕ
+end_after position None = position
+end_after position (Some item) = position + item_span item
 
 -- the position at which the tape ends once the unfinished record is complete
 abbrev pub end_of_begun : {W : Type 0} → TapeOutput W → ℕ
-end_of_begun t = end_behind t.position t.unfinished
+end_of_begun t = end_after t.position t.unfinished
 
 -- ---- calls
 

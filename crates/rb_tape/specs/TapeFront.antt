@@ -29,11 +29,11 @@ pub record IsHeaderAt (size position : ℕ) (h : Header) : Type 0 where
   pub fits : FitsAt size position h.len
 
 -- in the bytes after a header: the record's payload, and the padding up to a multiple of eight
-abbrev pub payload_behind : Header → List ℕ → List ℕ
-payload_behind h behind = take h.len behind
+abbrev pub payload_after : Header → List ℕ → List ℕ
+payload_after h behind = take h.len behind
 
-abbrev pub padding_behind : Header → List ℕ → List ℕ
-padding_behind h behind = take (padding h.len) (drop h.len behind)
+abbrev pub padding_after : Header → List ℕ → List ℕ
+padding_after h behind = take (padding h.len) (drop h.len behind)
 
 -- all bytes of the header's record are available
 abbrev pub HasWholeSpan : Header → List ℕ → Type 0
@@ -41,7 +41,7 @@ HasWholeSpan h behind = span h.len ≤ 8 + length behind
 
 -- the bytes of a discarded record are not all zeros
 abbrev pub HasDiscardedBytes : Header → List ℕ → Type 0
-HasDiscardedBytes h behind = (h.discard ≡ true) × (payload_behind h behind ≢ zeros h.len)
+HasDiscardedBytes h behind = (h.discard ≡ true) × (payload_after h behind ≢ zeros h.len)
 
 -- The fault of a header and the bytes after it, if no earlier one applies: Busy, Page and TooLong once the header is
 -- available, then DiscardedBytes and Padding once the whole record is. The end of the input and a lack of memory are
@@ -52,7 +52,7 @@ IsFirstTapeFault size position h behind Page = (h.busy ≡ false) × (h.page ≢
 IsFirstTapeFault size position h behind TooLong = (h.busy ≡ false) × (h.page ≡ page_of size position) × ¬ FitsAt size position h.len
 IsFirstTapeFault size position h behind DiscardedBytes = IsHeaderAt size position h × HasWholeSpan h behind × HasDiscardedBytes h behind
 IsFirstTapeFault size position h behind Padding =
-    IsHeaderAt size position h × HasWholeSpan h behind × (¬ HasDiscardedBytes h behind) × (padding_behind h behind ≢ zeros (padding h.len))
+    IsHeaderAt size position h × HasWholeSpan h behind × (¬ HasDiscardedBytes h behind) × (padding_after h behind ≢ zeros (padding h.len))
 IsFirstTapeFault size position h behind Truncated = ⊥
 IsFirstTapeFault size position h behind Memory = ⊥
 

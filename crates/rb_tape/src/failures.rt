@@ -1,4 +1,4 @@
-//! The number of failed calls of a writer, for contracts only.
+//! The number of failed calls of a writer. Only contracts read it.
 
 ghost use Rattle.std.specs.Prelude.{◌≡◌, ◌+◌, ℕ};
 ghost use Rattle.std.specs.Borrow.{ftrue};

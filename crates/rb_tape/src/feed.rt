@@ -3,8 +3,8 @@
 ghost use Rattle.std.specs.Prelude.{◌≡◌, ◌≤◌, drop, length};
 
 use crate::fault::{TapeFault, TapeKind};
-use crate::front::{look, record_at_front};
 use crate::record::Record;
+use crate::record_parser::{parse_front, record_at_front};
 use rb_history::{SetupFault, is_size, is_start, span};
 use std::alloc::Global;
 use std::marker::Model;
@@ -126,7 +126,7 @@ impl Feed {
             None => {}
         }
         let rest = &self.bytes[self.at..];
-        let header = match look(rest, self.size, self.position) {
+        let header = match parse_front(rest, self.size, self.position) {
             Ok(Some(header)) => header,
             Ok(None) => {
                 drop_front(&mut self.bytes, self.at);

@@ -41,17 +41,17 @@
 //! The calls are tested in rb_ring_tests and rb_ring_rows.
 #![tactic(auto)]
 
-mod begun;
+mod begun_record;
 mod failures;
 mod fault;
 mod feed;
-mod front;
 mod item;
 mod items;
 mod longest_list;
 mod piece;
 mod record;
 mod record_count;
+mod record_parser;
 mod tape;
 mod tape_laws;
 mod tape_writer;

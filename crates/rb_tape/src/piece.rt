@@ -81,7 +81,7 @@ fn write_zeros<W: Write>(writer: &mut W, size: u64, item: &Item<'_>, at: u64) ->
 
 #[inline(always)]
 // Writes the bytes after the record's header from the record's byte `from`, as `write_from` does.
-fn write_behind_header<W: Write>(writer: &mut W, size: u64, item: &Item<'_>, from: u64) -> u64
+fn write_after_header<W: Write>(writer: &mut W, size: u64, item: &Item<'_>, from: u64) -> u64
     requires stands { IsItemAt size (item_position (item_of item.now)) (item_of item.now) }
     requires behind { 8 ≤ from }
     requires from { from ≤ item_span (item_of item.now) }
@@ -112,11 +112,11 @@ pub(crate) fn write_from<W: Write>(writer: &mut W, size: u64, item: &Item<'_>, f
     ensures bytes { Appends (W.contents writer.old) (W.contents writer.new) (drop from (take result (item_bytes size (item_of item.now)))) }
 {
     if from >= 8 {
-        return write_behind_header(writer, size, item, from);
+        return write_after_header(writer, size, item, from);
     }
     let sent = from + write_header(writer, size, item, from) as u64;
     if sent < 8 {
         return sent;
     }
-    write_behind_header(writer, size, item, sent)
+    write_after_header(writer, size, item, sent)
 }

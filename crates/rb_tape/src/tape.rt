@@ -1,8 +1,8 @@
 //! A reader of a tape that is in memory as a whole.
 
 use crate::fault::{TapeFault, TapeKind};
-use crate::front::{look, record_at_front};
 use crate::record::Record;
+use crate::record_parser::{parse_front, record_at_front};
 use rb_history::{SetupFault, is_size, is_start, span};
 use std::marker::Model;
 
@@ -84,7 +84,7 @@ impl<'a> Iterator for Tape<'a> {
         }
         let offset = self.position - self.start;
         let bytes = self.rest;
-        let header = match look(bytes, self.size, self.position) {
+        let header = match parse_front(bytes, self.size, self.position) {
             Ok(Some(header)) => header,
             Ok(None) => {
                 self.told = Some(TapeKind::Truncated);

@@ -1,6 +1,6 @@
 //! A writer of a tape.
 
-use crate::begun::Begun;
+use crate::begun_record::Begun;
 use crate::failures::Failures;
 use crate::item::Item;
 use crate::items::Items;

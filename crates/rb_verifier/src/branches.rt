@@ -43,8 +43,8 @@ pub(crate) fn check_branch(
     ensures unchanged { IfErr result (λ _. state.new ≡ state.old) }
 {
     if let (Some(test), Abs::Perhaps(id)) = (test, dst) {
-        let null = state.where_null(id)?;
-        let there = state.where_there(id)?;
+        let null = state.assuming_null(id)?;
+        let there = state.assuming_record(id)?;
         return match test {
             NullTest::JumpsIfNull => {
                 *state = there;

@@ -90,7 +90,7 @@ fn check_give_back(state: &mut AbsState) -> Result<Option<AbsState>, StepFault>
     let [_, record, flags, ..] = state.values;
     let id = check_record_start(record)?;
     check_number(Rule::HelperArgument, flags)?;
-    *state = state.once_given_back(id)?;
+    *state = state.after_commit(id)?;
     state.answer(Abs::Unreadable);
     Ok(None)
 }

@@ -10,7 +10,7 @@ use crate::value::Abs;
 /// The offset of the first byte of the stack; the last byte is at offset -1.
 const STACK_FIRST: i64 = -512;
 
-/// Whether the `len` bytes at `offset + by` lie between the first byte of a part and its end.
+/// Returns whether the `len` bytes at `offset + by` lie between the first byte of a part and its end.
 fn contains_range(first: i64, end: i64, offset: i64, by: i64, len: u64) -> bool
     requires first { negsuc 511 ≤ℤ first }
     requires end { end ≤ℤ pos (2 ^ 32) }
@@ -28,8 +28,8 @@ fn contains_range(first: i64, end: i64, offset: i64, by: i64, len: u64) -> bool
     len <= (end - from).unsigned_abs()
 }
 
-/// Whether the `len` bytes at `value + by` lie in the part that the pointer points to. False if `value` is not a
-/// pointer.
+/// Returns whether the `len` bytes at `value + by` lie in the part that the pointer points to. False if `value` is not
+/// a pointer.
 pub(crate) fn reaches(limits: Limits, held: &Held, value: Abs, by: i64, len: u64) -> bool
     ensures { result ≡ reaches limits held.now value by len }
 {

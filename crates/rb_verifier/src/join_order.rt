@@ -11,7 +11,7 @@ use crate::state::AbsState;
 use crate::value::Abs;
 use std::alloc::AllocError;
 
-/// Whether an abstract value is a number, known or not.
+/// Returns whether an abstract value is a number, known or not.
 pub(crate) fn is_number(value: Abs) -> bool
     ensures { IsTrue result ↔ IsNumber value }
 {
@@ -21,7 +21,7 @@ pub(crate) fn is_number(value: Abs) -> bool
     }
 }
 
-/// Whether `value` is below `upper`: every concrete value that `value` describes, `upper` describes too.
+/// Returns whether `value` is below `upper`: every concrete value that `value` describes, `upper` describes too.
 pub(crate) fn is_below(value: Abs, upper: Abs) -> bool
     ensures { IsTrue result ↔ BelowValue value upper }
 {
@@ -45,8 +45,8 @@ pub(crate) fn join_value(left: Abs, right: Abs) -> Abs
     }
 }
 
-/// Whether a state is below another: the references are the same, and the abstract value of each register and of each
-/// place of the stack is below.
+/// Returns whether a state is below another: the references are the same, and the abstract value of each register and
+/// of each place of the stack is below.
 pub fn below(state: &AbsState, upper: &AbsState) -> bool
     ensures { IsTrue result ↔ Below state.now upper.now }
 {

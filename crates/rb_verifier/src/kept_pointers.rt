@@ -20,7 +20,7 @@ const STACK_LEN: i64 = 512;
 
 #[tactic(auto, using(crate::proofs::Numbers::on_stack))]
 /// Returns `offset + by`, where the `len` bytes from there on lie on the stack.
-fn offset_behind(offset: i64, by: i64, len: u64) -> i64
+fn offset_plus(offset: i64, by: i64, len: u64) -> i64
     requires { contains_range stack_extent (offset +ℤ by) len ≡ true }
     ensures { result ≡ offset +ℤ by }
 {
@@ -59,7 +59,7 @@ pub(crate) fn check_reach(
         return Err(Rule::OutsidePart);
     }
     match value {
-        Abs::Stack(offset) => Ok(Some(stack_byte(offset_behind(offset, by, len), len))),
+        Abs::Stack(offset) => Ok(Some(stack_byte(offset_plus(offset, by, len), len))),
         _ => Ok(None),
     }
 }

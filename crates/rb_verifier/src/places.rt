@@ -53,7 +53,7 @@ pub(crate) fn whole_place(at: u64, len: u64) -> Option<u64>
     }
 }
 
-/// Whether a place overlaps the `len` bytes from byte `at` on.
+/// Returns whether a place overlaps the `len` bytes from byte `at` on.
 fn touches(at: u64, len: u64, place: u64) -> bool
     requires { at + len ≤ 512 }
     ensures { result ≡ touches at len place }
@@ -61,7 +61,7 @@ fn touches(at: u64, len: u64, place: u64) -> bool
     0 < len && at / 8 <= place && place <= (at + len - 1) / 8
 }
 
-/// Whether all of these are `Number`.
+/// Returns whether all of these are `Number`.
 fn are_numbers(values: &[Abs]) -> bool
     ensures all { result ≡ true → (k : ℕ) → slice_index_or values.now k Abs.Number ≡ Abs.Number }
     ensures other { result ≡ false → (k : ℕ) × (k < length values.now) × (slice_index_or values.now k Abs.Number ≢ Abs.Number) }
@@ -76,7 +76,7 @@ fn are_numbers(values: &[Abs]) -> bool
 
 impl Places {
     /// Returns places that all hold data. Allocates nothing.
-    pub(crate) fn data(alloc: Global) -> Places
+    pub(crate) fn without_pointers(alloc: Global) -> Places
         ensures { result ≡ all_data }
     {
         Places {
@@ -84,7 +84,7 @@ impl Places {
         }
     }
 
-    /// Whether every place holds data.
+    /// Returns whether every place holds data.
     fn have_data(&self) -> bool
         ensures all { result ≡ true → self.now ≡ all_data }
         ensures pointer { result ≡ false → MayKeepPointer self.now }
@@ -98,7 +98,7 @@ impl Places {
         ensures memory { IsErr result → MayKeepPointer self.now }
     {
         if self.have_data() {
-            return Ok(Places::data(*self.items.allocator()));
+            return Ok(Places::without_pointers(*self.items.allocator()));
         }
         let items = Vec::from_slice(*self.items.allocator(), self.items.as_slice())?;
         Ok(Places { items })
@@ -122,7 +122,7 @@ impl Places {
     }
 
     /// Returns the abstract value of place `here` after `place` is set to `value`.
-    fn once_kept(&self, here: u64, place: u64, value: Abs) -> Abs
+    fn value_after_set(&self, here: u64, place: u64, value: Abs) -> Abs
         requires { IsPlaceValue value }
         ensures known { result ≡ with_place place value (known_in self.now) here }
         ensures value { IsPlaceValue result }
@@ -131,7 +131,7 @@ impl Places {
     }
 
     /// Returns the abstract value of place `here` after data is stored to the `len` bytes from byte `at` on.
-    fn once_stored(&self, here: u64, at: u64, len: u64) -> Abs
+    fn value_after_data(&self, here: u64, at: u64, len: u64) -> Abs
         requires { at + len ≤ 512 }
         ensures known { result ≡ with_data at len (known_in self.now) here }
         ensures value { IsPlaceValue result }
@@ -164,7 +164,7 @@ impl Places {
         let mut items = Vec::with_capacity(*self.items.allocator(), count)?;
         for i in 0..count {
             let here = LAST_PLACE - i as u64;
-            items.push(self.once_kept(here, place, value))?;
+            items.push(self.value_after_set(here, place, value))?;
         }
         Ok(Places { items })
     }
@@ -176,12 +176,12 @@ impl Places {
         ensures memory { IsErr result → MayKeepPointer self.now }
     {
         if self.have_data() {
-            return Ok(Places::data(*self.items.allocator()));
+            return Ok(Places::without_pointers(*self.items.allocator()));
         }
         let mut items = Vec::with_capacity(*self.items.allocator(), self.count())?;
         for i in 0..self.count() {
             let here = LAST_PLACE - i as u64;
-            items.push(self.once_stored(here, at, len))?;
+            items.push(self.value_after_data(here, at, len))?;
         }
         Ok(Places { items })
     }
@@ -192,7 +192,7 @@ impl Places {
         ensures memory { IsErr result → MayKeepPointer self.now }
     {
         if self.have_data() {
-            return Ok(Places::data(*self.items.allocator()));
+            return Ok(Places::without_pointers(*self.items.allocator()));
         }
         let mut items = Vec::with_capacity(*self.items.allocator(), self.count())?;
         for i in 0..self.count() {
@@ -208,7 +208,7 @@ impl Places {
         ensures memory { IsErr result → ¬ ((self.now ≡ all_data) × (other.now ≡ all_data)) }
     {
         if self.have_data() && other.have_data() {
-            return Ok(Places::data(*self.items.allocator()));
+            return Ok(Places::without_pointers(*self.items.allocator()));
         }
         let count = self.count().max(other.count());
         let mut items = Vec::with_capacity(*self.items.allocator(), count)?;
@@ -219,7 +219,7 @@ impl Places {
         Ok(Places { items })
     }
 
-    /// Whether each place is below that of `upper`.
+    /// Returns whether each place is below that of `upper`.
     pub(crate) fn are_below(&self, upper: &Places) -> bool
         ensures { IsTrue result ↔ ((place : ℕ) → BelowValue (known_in self.now place) (known_in upper.now place)) }
     {
@@ -232,7 +232,7 @@ impl Places {
         true
     }
 
-    /// Whether one of the `len` bytes from byte `at` on may belong to a pointer.
+    /// Returns whether one of the `len` bytes from byte `at` on may belong to a pointer.
     pub(crate) fn may_keep(&self, at: u64, len: u64) -> bool
         requires { at + len ≤ 512 }
         ensures { result ≡ may_keep at len (known_in self.now) }

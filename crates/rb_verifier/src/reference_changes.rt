@@ -56,7 +56,7 @@ fn changed_values(mut values: [Abs; 11], change: Change) -> [Abs; 11]
 
 impl AbsState {
     /// Returns the state in which the reservation was null.
-    pub(crate) fn where_null(&self, id: u32) -> Result<AbsState, AllocError>
+    pub(crate) fn assuming_null(&self, id: u32) -> Result<AbsState, AllocError>
         ensures changed { IfOk result (λ state. state ≡ null_state id self.now) }
         ensures memory { IsErr result → MayKeepPointer self.now.places }
     {
@@ -71,7 +71,7 @@ impl AbsState {
     }
 
     /// Returns the state in which the reservation was a record.
-    pub(crate) fn where_there(&self, id: u32) -> Result<AbsState, AllocError>
+    pub(crate) fn assuming_record(&self, id: u32) -> Result<AbsState, AllocError>
         ensures changed { IfOk result (λ state. state ≡ there_state id self.now) }
         ensures memory { IsErr result → MayKeepPointer self.now.places }
     {
@@ -85,7 +85,7 @@ impl AbsState {
     }
 
     /// Returns the state after the record was submitted or discarded.
-    pub(crate) fn once_given_back(&self, id: u32) -> Result<AbsState, AllocError>
+    pub(crate) fn after_commit(&self, id: u32) -> Result<AbsState, AllocError>
         ensures changed { IfOk result (λ state. state ≡ given_back_state id self.now) }
         ensures memory { IsErr result → MayKeepPointer self.now.places }
     {

@@ -96,21 +96,21 @@ impl Held {
         None
     }
 
-    /// Whether four references are held.
+    /// Returns whether four references are held.
     pub(crate) fn is_full(&self) -> bool
         ensures { result ≡ is_full self.now }
     {
         self.items.len() >= 4
     }
 
-    /// Whether no reference is held.
+    /// Returns whether no reference is held.
     pub(crate) fn is_empty(&self) -> bool
         ensures { result ≡ is_empty self.now }
     {
         self.items.is_empty()
     }
 
-    /// Whether both hold the same references.
+    /// Returns whether both hold the same references.
     pub(crate) fn is_same(&self, other: &Held) -> bool
         ensures { IsTrue result ↔ (self.now ≡ other.now) }
     {

@@ -11,34 +11,34 @@ use thiserror::Error;
 #[derive(Clone, Copy, Debug, PartialEq, Eq, Error)]
 pub enum Rule {
     /// V1: reads a register that holds nothing readable.
-    #[error("V1: a register that holds nothing is read")]
+    #[error("V1: a register that holds nothing readable is read")]
     Unreadable,
     /// V2: writes the frame pointer r10.
     #[error("V2: the frame pointer r10 is written")]
     FramePointerWritten,
     /// V3: does arithmetic that is not allowed on a pointer.
-    #[error("V3: arithmetic that a pointer doesn't allow")]
+    #[error("V3: arithmetic that is not allowed on a pointer")]
     PointerArithmetic,
     /// V4: accesses memory outside the context, the stack and the held records.
-    #[error("V4: an access outside of every part of memory")]
+    #[error("V4: an access outside the context, the stack and the held records")]
     OutsidePart,
     /// V5: writes to the context.
-    #[error("V5: the context is written")]
+    #[error("V5: a write to the context")]
     ContextWritten,
     /// V6: stores a pointer other than to a whole place of the stack.
-    #[error("V6: a pointer is stored")]
+    #[error("V6: a pointer is stored other than to a whole place of the stack")]
     PointerStored,
     /// V7: passes an argument that the helper does not accept.
-    #[error("V7: an argument that the helper doesn't take")]
+    #[error("V7: an argument that the helper does not accept")]
     HelperArgument,
     /// V8: passes a size that is not known, or is too large.
-    #[error("V8: a size that is not known, or too large")]
+    #[error("V8: a size that is not known or is too large")]
     SizeNotKnown,
     /// V9: holds more than four references.
     #[error("V9: more than four references are held")]
     TooManyReferences,
     /// V10: exits while it holds a reference.
-    #[error("V10: a reference is left at the exit")]
+    #[error("V10: a reference is held at the exit")]
     ReferenceLeft,
     /// V11: two edges arrive at the same unit with different references.
     #[error("V11: different references arrive along two edges")]
@@ -50,10 +50,10 @@ pub enum Rule {
     #[error("V13: a pointer is compared")]
     PointerCompared,
     /// V14: uses a reservation before it is tested against null.
-    #[error("V14: a reservation is used that was not tested against null")]
+    #[error("V14: a reservation is used before it is tested against null")]
     NullNotTested,
     /// V15: calls an unknown helper.
-    #[error("V15: a helper that is not known is called")]
+    #[error("V15: an unknown helper is called")]
     UnknownHelper,
 }
 

@@ -45,7 +45,7 @@ impl AbsState {
         AbsState {
             values,
             held: Held::new(alloc),
-            places: Places::data(alloc),
+            places: Places::without_pointers(alloc),
         }
     }
 

@@ -3,13 +3,13 @@
 ghost use Rattle.rb_verifier.specs.StepOrder.{StepKeepsOrder};
 ghost use Rattle.rb_verifier.specs.Forms.{StepKeepsForm};
 
-/// The law that a step is monotone: checks that hold in a state hold in every state below it, and the effects are
+/// States that a step is monotone: checks that hold in a state hold in every state below it, and the effects are
 /// ordered likewise.
 pub fn step_keeps_order()
     ensures { StepKeepsOrder }
 {}
 
-/// The law that a step keeps the form of states: the state along each edge has eleven values, and at most four
+/// States that a step keeps the form of states: the state along each edge has eleven values, and at most four
 /// references to records that were reserved at earlier units.
 pub fn step_keeps_form()
     ensures { StepKeepsForm }

@@ -10,7 +10,8 @@ use crate::rule::Rule;
 use crate::value::Abs;
 use rb_insn::Reg;
 
-/// The greatest length of a record in bytes.
+/// The maximal length in bytes of a record that a program may reserve: the size of the largest ring. `MAX_RECORD_LEN` of
+/// `rb_history` names the other limits of a record's length.
 const MAX_RECORD: u64 = 1 << 26;
 
 /// Checks that the register is not the frame pointer r10, which must not be written.

@@ -122,12 +122,12 @@ fn objects_of_explanations(rt: HostRuntime) {
         (
             &["explain", "--json"],
             b"9500000000000000",
-            "1 refused verify V1 unit 0\n{\"unit\":0,\"bytes\":\"9500000000000000\",\"assembly\":\"exit\"}\n{\"layer\":\"verify\",\"fault\":\"V1\",\"unit\":0,\"advice\":\"An instruction reads only registers that hold something on every path to it. Set the register first; r1 to r5 hold nothing after a call, and r0 nothing after a submit or a discard: keep what is needed in r6 to r9, or on the stack. A pointer on the stack is loaded by its eight bytes at once.\"}\n",
+            "1 refused verify V1 unit 0\n{\"unit\":0,\"bytes\":\"9500000000000000\",\"assembly\":\"exit\"}\n{\"layer\":\"verify\",\"fault\":\"V1\",\"unit\":0,\"advice\":\"An instruction may only read registers that hold a value on every path to it. Set the register first. After a call, r1 to r5 hold nothing, and after a submit or a discard neither does r0: keep what you need in r6 to r9, or on the stack. Load a pointer from the stack by a single load of eight bytes.\"}\n",
         ),
         (
             &["explain", "--json"],
             b"b700000000000000 9500000000000001",
-            "1 refused decode UnusedField unit 1\n{\"unit\":0,\"bytes\":\"b700000000000000\",\"assembly\":\"r0 = 0\"}\n{\"unit\":1,\"bytes\":\"9500000000000001\"}\n{\"layer\":\"decode\",\"fault\":\"UnusedField\",\"unit\":1,\"advice\":\"UnusedField: A field that the instruction does not use is set, or has a number that it does not allow. Set it to zero.\"}\n",
+            "1 refused decode UnusedField unit 1\n{\"unit\":0,\"bytes\":\"b700000000000000\",\"assembly\":\"r0 = 0\"}\n{\"unit\":1,\"bytes\":\"9500000000000001\"}\n{\"layer\":\"decode\",\"fault\":\"UnusedField\",\"unit\":1,\"advice\":\"UnusedField: A field that the instruction does not use is not zero, or a field has a value that the instruction does not allow. Set an unused field to zero.\"}\n",
         ),
         (
             &["explain", "--json"],

@@ -7,24 +7,24 @@ use Rattle.rb_program.specs.Shape.{IsInstructionStart}
 use Rattle.rb_verifier.specs.declared.state.AbsState.{AbsState}
 use Rattle.rb_verifier.specs.Annotation.{Annotation, state_at}
 use Rattle.rb_verifier.specs.Subject.{calls}
-use Rattle.rb_cost.specs.declared.asking.Asked.{Asked}
-use Rattle.rb_cost.specs.declared.counted.Counted.{Counted}
-use Rattle.rb_cost.specs.declared.counted.Counted.TheVariants.{Steps, Calls, Records, Bytes}
+use Rattle.rb_cost.specs.declared.requested_record.RequestedRecord.{RequestedRecord}
+use Rattle.rb_cost.specs.declared.path_quantity.Quantity.{Quantity}
+use Rattle.rb_cost.specs.declared.path_quantity.Quantity.TheVariants.{Steps, Calls, Records, Bytes}
 use Rattle.rb_cost.specs.Paths.{IsPath}
-use Rattle.rb_cost.specs.Asking.{asked_in, is_on, bytes_on, is_of_ring, held_span}
+use Rattle.rb_cost.specs.Requests.{asked_in, is_on, bytes_on, is_of_ring, held_span}
 
 -- the contribution of a unit of a path
-abbrev pub weight_in : Counted → Option Insn → AbsState → ℕ
+abbrev pub weight_in : Quantity → Option Insn → AbsState → ℕ
 weight_in Steps slot s = 1
 weight_in Calls slot s = if calls slot then 1 else 0
 weight_in (Records ring) slot s = if is_on ring (asked_in slot s) then 1 else 0
 weight_in (Bytes ring) slot s = bytes_on ring (asked_in slot s)
 
-abbrev pub weight_at : Counted → List Insn → Annotation → ℕ → ℕ
+abbrev pub weight_at : Quantity → List Insn → Annotation → ℕ → ℕ
 weight_at counted program a unit = weight_in counted (slot_at program unit) (a unit)
 
 -- a record has at most 67,108,864 bytes
-abbrev pub IsSmall : Option Asked → Type 0
+abbrev pub IsSmall : Option RequestedRecord → Type 0
 IsSmall asked = IfSome asked (λ record_asked. record_asked.len ≤ 2 ^ 26)
 
 -- the sum along a path

@@ -4,7 +4,7 @@ use Rattle.rtrb.specs.Ring.{sent, SameProducer}
 use Rattle.rb_source.specs.Piece.{PieceContents}
 use Rattle.rb_dealing.specs.Dealt.{DealtPiece, AreDealtAmong, contexts_in, dealt_to, dropped_in, saturated}
 use Rattle.rb_dealing.specs.declared.lane.LaneFeed.{LaneFeed}
-use Rattle.rb_dealing.specs.declared.dealing.Dealing.{Dealing}
+use Rattle.rb_dealing.specs.declared.reader.Dealing.{Dealing}
 
 -- the contexts of the pieces in a queue, one after another
 abbrev pub queued : List PieceContents → List (List ℕ)

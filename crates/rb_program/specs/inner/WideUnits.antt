@@ -5,5 +5,5 @@ use Rattle.rb_insn.specs.declared.insn.Insn.TheVariants.{Exit}
 use Rattle.rb_insn.specs.Units.{units_taken}
 
 -- whether the instruction stored before `unit` is wide
-abbrev pub is_behind_wide : List Insn → ℕ → Bool
-is_behind_wide units unit = units_taken (slice_index_or (Exit ∷ units) unit Exit) == 2
+abbrev pub follows_wide : List Insn → ℕ → Bool
+follows_wide units unit = units_taken (slice_index_or (Exit ∷ units) unit Exit) == 2

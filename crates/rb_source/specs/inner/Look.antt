@@ -1,9 +1,9 @@
 -- What is found at the front of bytes.
 use Rattle.std.specs.Prelude.{ℕ, ◌≡◌, ◌+◌, ◌<◌, ◌≤◌, ◌^◌, List, ◌∷◌, ◌++◌, length, take, drop, Option, Some, None}
 use Rattle.rb_source.specs.declared.framing.Framing.{Framing}
-use Rattle.rb_source.specs.declared.front.Opening.{Opening}
-use Rattle.rb_source.specs.declared.front.Opening.TheVariants as fronts
-use Rattle.rb_source.specs.declared.front.ContextPlace.{ContextPlace}
+use Rattle.rb_source.specs.declared.portion_parser.Opening.{Opening}
+use Rattle.rb_source.specs.declared.portion_parser.Opening.TheVariants as fronts
+use Rattle.rb_source.specs.declared.portion_parser.ContextPlace.{ContextPlace}
 use Rattle.rb_source.specs.Framing.{Portion, IsPortion, IsPartial, BeginsWithEnd, HasNoLineFeed, line_feed, portion_bytes}
 use Rattle.rb_source.specs.Framing.Portion.{Content, Flush}
 

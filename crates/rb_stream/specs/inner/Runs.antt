@@ -3,9 +3,9 @@ use Rattle.std.specs.Prelude.{◌≡◌, ℕ, ◌<◌, List, [], ◌++◌, false
 use Rattle.rb_verifier.specs.Subject.{Subject}
 use Rattle.rb_ledger.specs.Seats.{WorkerSeat}
 use Rattle.rb_dealing.specs.Dealt.{DealtPiece, AreDealtAmong, contexts_in, dealt_to, dropped_in, saturated}
-use Rattle.rb_dealing.specs.declared.dealing.Dealt.{Dealt}
-use Rattle.rb_dealing.specs.declared.dealing.DealEnd.{DealEnd}
-use Rattle.rb_dealing.specs.declared.dealing.DealEnd.TheVariants.{Over as DealOver, Failed as DealFailed}
+use Rattle.rb_dealing.specs.declared.reader.Dealt.{Dealt}
+use Rattle.rb_dealing.specs.declared.reader.DealEnd.{DealEnd}
+use Rattle.rb_dealing.specs.declared.reader.DealEnd.TheVariants.{Over as DealOver, Failed as DealFailed}
 use Rattle.rb_stream_worker.specs.Tasks.{TaskRun}
 use Rattle.rb_stream_worker.specs.declared.stream_counts.StreamCounts.{StreamCounts}
 use Rattle.rb_stream_worker.specs.declared.when_full.WhenFull.{WhenFull}

@@ -5,15 +5,15 @@ use Rattle.rb_history.specs.Span.{span}
 use Rattle.rb_history.specs.TapeBytes.{Item}
 use Rattle.rb_history.specs.TapeBytes.Item.{Event, Skip}
 use Rattle.rb_tape.specs.declared.fault.TapeKind.{TapeKind}
-use Rattle.rb_tape.specs.TapeFront.{StartsWithItem, ShowsFault, IsUndecided, payload_behind}
+use Rattle.rb_tape.specs.TapeFront.{StartsWithItem, ShowsFault, IsUndecided, payload_after}
 
 -- the item that a header and the bytes after it form
-abbrev pub item_behind : ℕ → Header → List ℕ → Item
-item_behind position h behind = if h.discard then Skip position h.len else Event position (payload_behind h behind)
+abbrev pub item_after : ℕ → Header → List ℕ → Item
+item_after position h behind = if h.discard then Skip position h.len else Event position (payload_after h behind)
 
 -- the bytes begin with the whole item of this header
 pub record HasWholeItem (size position : ℕ) (bytes : List ℕ) (h : Header) : Type 0 where
-  pub starts : StartsWithItem size position bytes (item_behind position h (drop 8 bytes)) (drop (span h.len) bytes)
+  pub starts : StartsWithItem size position bytes (item_after position h (drop 8 bytes)) (drop (span h.len) bytes)
   pub there : span h.len ≤ length bytes
 
 -- the possible results

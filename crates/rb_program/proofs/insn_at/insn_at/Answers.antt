@@ -9,7 +9,7 @@ use Rattle.rb_insn.specs.declared.insn.Insn.{Insn}
 use Rattle.rb_insn.specs.Units.{units_taken}
 use Rattle.rb_insn.specs.Spelling.{Spells}
 use Rattle.rb_program.specs.inner.FieldChecks.{is_named_by, row_for, registers_fit, numbers_fit, insn_from}
-use Rattle.rb_program.proofs.Front.{no_operation, unnamed, register_above, number_unused, second_fault, wide_spelled, narrow_spelled, told, found, keeps}
+use Rattle.rb_program.proofs.Front.{no_operation, unnamed, register_above, number_unused, second_fault, wide_spelled, narrow_spelled, computed, found, keeps}
 use Rattle.rb_program.proofs.insn_at.insn_at.Goals as goal
 
 pub returns-in_default-clause-err : goal.returns-in_default-clause-err
@@ -18,8 +18,8 @@ returns-in_default-clause-err c =
     let bytes = c.args.bytes.now in
     let at = c.read_fields-fields.ensures in
     no_operation bytes (λ i. omega (arith, c.type_inv.bytes i))
-    (told is_left_out f bytes c.is_left_out.result false at c.is_left_out.ensures c.if-is_left_out.false)
-    (told (λ g. operation_at g.opcode) f bytes c.of.result None at c.of.ensures c.in_default.is)
+    (computed is_left_out f bytes c.is_left_out.result false at c.is_left_out.ensures c.if-is_left_out.false)
+    (computed (λ g. operation_at g.opcode) f bytes c.of.result None at c.of.ensures c.in_default.is)
 
 pub returns-then-not-is_named_by-clause-err : goal.returns-then-not-is_named_by-clause-err
 returns-then-not-is_named_by-clause-err c =
@@ -28,7 +28,7 @@ returns-then-not-is_named_by-clause-err c =
     let op = c.in-Some.operation in
     let at = c.read_fields-fields.ensures in
     let is_found = found op f bytes c.is_left_out.result c.of.result at (λ i. omega (arith, c.type_inv.bytes i)) c.is_left_out.ensures c.if-is_left_out.false c.of.ensures c.in-Some.is in
-    unnamed op bytes is_found (told (is_named_by op) f bytes c.is_named_by.result false at c.is_named_by.ensures c.if-not-is_named_by.true)
+    unnamed op bytes is_found (computed (is_named_by op) f bytes c.is_named_by.result false at c.is_named_by.ensures c.if-not-is_named_by.true)
 
 pub returns-then-not-has_registers-clause-err : goal.returns-then-not-has_registers-clause-err
 returns-then-not-has_registers-clause-err c =
@@ -38,8 +38,8 @@ returns-then-not-has_registers-clause-err c =
     let at = c.read_fields-fields.ensures in
     let is_found = found op f bytes c.is_left_out.result c.of.result at (λ i. omega (arith, c.type_inv.bytes i)) c.is_left_out.ensures c.if-is_left_out.false c.of.ensures c.in-Some.is in
     register_above op bytes is_found
-    (told (is_named_by op) f bytes c.is_named_by.result true at c.is_named_by.ensures c.if-not-is_named_by.false)
-    (told (λ g. registers_fit (row_for op g.src) g) f bytes c.has_registers.result false at c.has_registers.ensures c.if-not-has_registers.true)
+    (computed (is_named_by op) f bytes c.is_named_by.result true at c.is_named_by.ensures c.if-not-is_named_by.false)
+    (computed (λ g. registers_fit (row_for op g.src) g) f bytes c.has_registers.result false at c.has_registers.ensures c.if-not-has_registers.true)
 
 pub returns-then-not-has_numbers-clause-err : goal.returns-then-not-has_numbers-clause-err
 returns-then-not-has_numbers-clause-err c =
@@ -49,9 +49,9 @@ returns-then-not-has_numbers-clause-err c =
     let at = c.read_fields-fields.ensures in
     let is_found = found op f bytes c.is_left_out.result c.of.result at (λ i. omega (arith, c.type_inv.bytes i)) c.is_left_out.ensures c.if-is_left_out.false c.of.ensures c.in-Some.is in
     number_unused op bytes is_found
-    (told (is_named_by op) f bytes c.is_named_by.result true at c.is_named_by.ensures c.if-not-is_named_by.false)
-    (told (λ g. registers_fit (row_for op g.src) g) f bytes c.has_registers.result true at c.has_registers.ensures c.if-not-has_registers.false)
-    (told (λ g. numbers_fit (row_for op g.src) g) f bytes c.has_numbers.result false at c.has_numbers.ensures c.if-not-has_numbers.true)
+    (computed (is_named_by op) f bytes c.is_named_by.result true at c.is_named_by.ensures c.if-not-is_named_by.false)
+    (computed (λ g. registers_fit (row_for op g.src) g) f bytes c.has_registers.result true at c.has_registers.ensures c.if-not-has_registers.false)
+    (computed (λ g. numbers_fit (row_for op g.src) g) f bytes c.has_numbers.result false at c.has_numbers.ensures c.if-not-has_numbers.true)
 
 pub returns-in_err-next_imm-clause-err : goal.returns-in_err-next_imm-clause-err
 returns-in_err-next_imm-clause-err c =

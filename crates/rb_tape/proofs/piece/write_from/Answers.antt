@@ -9,6 +9,6 @@ pub returns-clause-bytes : goal.returns-clause-bytes
 returns-clause-bytes g c =
     let text = item_bytes c.args.size (item_of c.args.item.now) in
     let n = c.write_header.result in
-    let rest = c.write_behind_header-2.ensures in
+    let rest = c.write_after_header-2.ensures in
     let len = length-item_bytes c.args.size (item_of c.args.item.now) in
-    then-out text _ _ _ c.args.from (c.args.from + n) c.write_behind_header-2.result (omega arith) rest.more (omega (arith, len, rest.more, rest.bound)) (first-out text _ _ c.args.from n c.write_header.ensures.bytes) rest.bytes
+    then-out text _ _ _ c.args.from (c.args.from + n) c.write_after_header-2.result (omega arith) rest.more (omega (arith, len, rest.more, rest.bound)) (first-out text _ _ c.args.from n c.write_header.ensures.bytes) rest.bytes

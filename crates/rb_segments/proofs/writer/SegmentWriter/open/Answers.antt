@@ -1,7 +1,7 @@
 use Rattle.std.proofs.Common.{sym, ◌∙◌, subst, ◌++◌, ◌∷◌, []}
 use Rattle.std.specs.Prelude.{map}
 use Rattle.rb_segments.specs.Known.{HavePositions}
-use Rattle.rb_segments.specs.declared.stored.StoredSegment.{StoredSegment}
+use Rattle.rb_segments.specs.declared.stored_segment.StoredSegment.{StoredSegment}
 use Rattle.rb_segments.proofs.Restarting.{listed_positions}
 use Rattle.rb_segments.proofs.writer.SegmentWriter.open.Goals as goal
 

@@ -68,10 +68,10 @@ returns-clause-written g c start deleted items written =
     let all = on_ok c.put.result _ c.is_err.result c.put.ensures.all_sent c.is_err.ensures.value c.if-is_err.false in
     let here = (c.self.invariant.4 none).0 ∙ ap position view in
     let moved = moved_on new.position _ _ _ c.is_err.result c.put.ensures.position c.is_err.ensures.negation c.if-is_err.false ∙ ap (λ n. n + item_span item) here in
-    let now = directory_at segments contents c.tend.new.store c.tend.new.tape.writer c.tend.new.opened in
+    let now = directory_at segments contents c.roll_and_delete.new.store c.roll_and_delete.new.tape.writer c.roll_and_delete.new.opened in
     let keeps =
     subst (λ n. KeepsRecords (directory_at segments contents old.store new.writer old.opened) n now) moved
-    (subst (λ (t : SegmentTape g.row.S.Denot g.row.F.Denot). KeepsRecords (directory_at segments contents t.store new.writer t.opened) new.position now) view c.tend.ensures.keeps) in
+    (subst (λ (t : SegmentTape g.row.S.Denot g.row.F.Denot). KeepsRecords (directory_at segments contents t.store new.writer t.opened) new.position now) view c.roll_and_delete.ensures.keeps) in
     let ring = subst IsRingSize (ap size view) c.self.invariant.0 in
     let fits = subst (λ n. c.span-span.result < n) (ap size view) c.if-span-self.false in
     goes_on segments contents start deleted items item old _ (ap size view)

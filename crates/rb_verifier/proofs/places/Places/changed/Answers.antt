@@ -21,7 +21,7 @@ returns-clause-changed c =
 
 pub returns-then-have_data-clause-changed : goal.returns-then-have_data-clause-changed
 returns-then-have_data-clause-changed c =
-    c.data.ensures ∙ data_listed (λ place. place_after c.args.change (known_in c.args.self.now place)) (λ place. ap (place_after c.args.change) (known-data c.args.self.now (c.have_data.ensures.all c.if-have_data.true) place) ∙ after_change-data c.args.change)
+    c.without_pointers.ensures ∙ data_listed (λ place. place_after c.args.change (known_in c.args.self.now place)) (λ place. ap (place_after c.args.change) (known-data c.args.self.now (c.have_data.ensures.all c.if-have_data.true) place) ∙ after_change-data c.args.change)
 
 pub invariant_of-result : goal.invariant_of-result
 invariant_of-result c = kept_built c.loop-i.items.items c.loop-i.i c.loop-i.invariant.count (omega (arith, c.loop-i.invariant.count, c.count.ensures.few)) c.loop-i.invariant.values

@@ -6,11 +6,11 @@ use Rattle.rb_verifier.proofs.places.Places.with_place.Goals as goal
 
 pub loop-i-preserved : goal.loop-i-preserved
 loop-i-preserved c = record {
-  count = ap length c.in_ok-push.ensures.items ∙ length-append c.loop-i.items.items (c.once_kept.result ∷ []) ∙ ap (λ n. n + 1) c.loop-i.invariant.count;
+  count = ap length c.in_ok-push.ensures.items ∙ length-append c.loop-i.items.items (c.value_after_set.result ∷ []) ∙ ap (λ n. n + 1) c.loop-i.invariant.count;
   built = subst (λ zs. AreBuilt (λ place x. x ≡ with_place c.args.place c.args.value (known_in c.args.self.now) place) zs (c.loop-i.i + 1)) (sym c.in_ok-push.ensures.items)
-      (built_more (λ place x. x ≡ with_place c.args.place c.args.value (known_in c.args.self.now) place) c.loop-i.items.items c.loop-i.i c.once_kept.result c.loop-i.invariant.count c.loop-i.invariant.built c.once_kept.ensures.known);
+      (built_more (λ place x. x ≡ with_place c.args.place c.args.value (known_in c.args.self.now) place) c.loop-i.items.items c.loop-i.i c.value_after_set.result c.loop-i.invariant.count c.loop-i.invariant.built c.value_after_set.ensures.known);
   values = subst (λ zs. AreBuilt (λ place x. IsPlaceValue x) zs (c.loop-i.i + 1)) (sym c.in_ok-push.ensures.items)
-      (built_more (λ place x. IsPlaceValue x) c.loop-i.items.items c.loop-i.i c.once_kept.result c.loop-i.invariant.count c.loop-i.invariant.values c.once_kept.ensures.value);
+      (built_more (λ place x. IsPlaceValue x) c.loop-i.items.items c.loop-i.i c.value_after_set.result c.loop-i.invariant.count c.loop-i.invariant.values c.value_after_set.ensures.value);
 }
 
 pub returns : goal.returns

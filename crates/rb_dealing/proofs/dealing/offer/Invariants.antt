@@ -1,6 +1,0 @@
-use Rattle.std.proofs.Common.{◌≡◌, []}
-use Rattle.rb_dealing.specs.inner.Feeds.{Fed}
-use Rattle.rb_dealing.proofs.dealing.offer.Given as goal
-
-abbrev pub invariant-loop-step : goal.invariant-loop-step
-invariant-loop-step l = (l.piece ≡ l.fn.piece) × Fed l.fn.feeds [] l.feeds

@@ -1,4 +1,0 @@
-use Rattle.rb_dealing.proofs.work.runs_go_on.Goals as goal
-
-pub returns : goal.returns
-returns g c = record { law = g.met.W.Work.runs_both }

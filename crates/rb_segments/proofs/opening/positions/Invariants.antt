@@ -1,7 +1,0 @@
-use Rattle.std.proofs.Common.{◌≡◌, take}
-use Rattle.std.specs.Prelude.{map}
-use Rattle.rb_segments.specs.declared.stored.StoredSegment.{StoredSegment}
-use Rattle.rb_segments.proofs.opening.positions.Given as goal
-
-abbrev pub invariant-loop-segment : goal.invariant-loop-segment
-invariant-loop-segment l = l.positions.items ≡ map (λ (s : StoredSegment). s.position) (take l.segment-index l.list)

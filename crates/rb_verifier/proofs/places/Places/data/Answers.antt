@@ -1,7 +1,0 @@
-use Rattle.std.proofs.Common.{subst, sym}
-use Rattle.rb_verifier.specs.inner.KeptList.{IsKeptList}
-use Rattle.rb_verifier.proofs.PlaceValues.{none_kept}
-use Rattle.rb_verifier.proofs.places.Places.data.Goals as goal
-
-pub invariant_of-result : goal.invariant_of-result
-invariant_of-result c = subst IsKeptList (sym c.new.ensures.items) none_kept
