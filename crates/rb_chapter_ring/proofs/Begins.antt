@@ -9,7 +9,7 @@ use Rattle.rb_chapter_ring.proofs.Empty.{empty-kept}
 use Rattle.rb_chapter_ring.proofs.Running.{closing-none}
 use Rattle.rb_chapter_ring.proofs.CountSteps.{zero_counts}
 use Rattle.rb_chapter_ring.specs.inner.Ordinals.{taken_before}
-use Rattle.rb_chapter_ring.specs.inner.ChapterRingBody.{IsStored, IsRingOf}
+use Rattle.rb_chapter_ring.specs.inner.RingBody.{IsStored, IsRingOf}
 
 -- the summary at the end of its chapter
 pub begins-closing : (room : ℕ) (r : Setup) → closing_of (first_chapter room r) ≡ empty_ring r

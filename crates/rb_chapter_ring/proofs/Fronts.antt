@@ -15,7 +15,7 @@ use Rattle.rb_chapter_ring.specs.CountedFrom.{consumer_from}
 use Rattle.rb_chapter_ring.specs.ChapterRoom.{HasSettledFront, with_entry}
 use Rattle.rb_chapter_ring.specs.inner.Ordinals.{KeepsNumbers, KeepsOrdinals, taken_before}
 use Rattle.rb_chapter_ring.proofs.Numbers.{ordinals-take}
-use Rattle.rb_chapter_ring.specs.inner.ChapterRingBody.{state_with, stored_of, ring_of, IsRingOf}
+use Rattle.rb_chapter_ring.specs.inner.RingBody.{state_with, stored_of, ring_of, IsRingOf}
 use Rattle.rb_chapter_ring.proofs.CountSteps.{counting_take}
 use Rattle.rb_chapter_ring.proofs.Slotted.{many-now, front, behind, split-now, take-stored, empty-stored}
 use Rattle.rb_chapter_ring.proofs.TakesOne.{TakesAs, takes-none, takes-busy, takes-it, take-keeps, take-closing}

@@ -19,7 +19,7 @@ use Rattle.rb_chapter_ring.proofs.ChapterNumbers.{length-below}
 use Rattle.rb_chapter_ring.proofs.Logging.{refused, granted, serial-is}
 use Rattle.rb_chapter_ring.proofs.Running.{records-owe}
 use Rattle.rb_chapter_ring.proofs.CountSteps.{counting_grant, counting_refusal}
-use Rattle.rb_chapter_ring.specs.inner.ChapterRingBody.{IsStored, IsRingOf}
+use Rattle.rb_chapter_ring.specs.inner.RingBody.{IsStored, IsRingOf}
 use Rattle.rb_chapter_ring.proofs.CountSteps.{counts-refusal, counts-grant}
 use Rattle.rb_chapter_ring.proofs.Keeps.{longer-legal, keeps}
 use Rattle.rb_chapter_ring.proofs.Rows.{rows}

@@ -15,7 +15,7 @@ use Rattle.rb_chapter_ring.proofs.Logging.{KeepsRunning}
 use Rattle.rb_chapter_ring.proofs.Settling.{whole-legal}
 use Rattle.rb_chapter_ring.specs.OpenedRing.{capped_counts}
 use Rattle.rb_chapter_ring.specs.inner.Ordinals.{taken_before}
-use Rattle.rb_chapter_ring.specs.inner.ChapterRingBody.{IsStored, IsRingOf}
+use Rattle.rb_chapter_ring.specs.inner.RingBody.{IsStored, IsRingOf}
 
 module _ (earlier : List Entry) (c : Chapter) (stored : List StoredRecord) (counts : Counts) (g : IsRingOf earlier c stored counts) where
   -- the whole history, one entry longer

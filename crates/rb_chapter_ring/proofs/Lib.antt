@@ -41,6 +41,7 @@ pub mod Slotted
 pub mod Fronts
 pub mod FreedHands
 pub mod StateSteps
+pub mod RingSteps
 pub mod Written
 pub mod Numbers
 pub mod Ordinals

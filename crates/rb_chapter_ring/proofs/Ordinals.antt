@@ -20,7 +20,7 @@ use Rattle.rb_chapter_ring.specs.ChapterCalls.{IsBusyFrom}
 use Rattle.rb_chapter_ring.specs.WholeHistory.{IsKept}
 use Rattle.rb_chapter_ring.proofs.Logging.{ends}
 use Rattle.rb_chapter_ring.proofs.Settling.{whole-legal}
-use Rattle.rb_chapter_ring.specs.inner.ChapterRingBody.{stored_at}
+use Rattle.rb_chapter_ring.specs.inner.RingBody.{stored_at}
 use Rattle.rb_chapter_ring.specs.inner.Ordinals.{HasOrdinals, HasOrdinal, KeepsNumbers, ordinal_at, taken_before}
 use Rattle.rb_chapter_ring.specs.declared.out_record.OutRecord.{OutRecord}
 use Rattle.rb_chapter_ring.specs.Hands.{hand_at, with_hand, IsShaped}

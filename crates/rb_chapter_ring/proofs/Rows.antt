@@ -16,7 +16,7 @@ use Rattle.rb_chapter_ring.proofs.Alike.{stands-alike}
 use Rattle.rb_chapter_ring.proofs.Logging.{ends}
 use Rattle.rb_chapter_ring.proofs.Settling.{whole-legal}
 use Rattle.rb_chapter_ring.proofs.Stands.{goes-on}
-use Rattle.rb_chapter_ring.specs.inner.ChapterRingBody.{IsRingOf, ring_of}
+use Rattle.rb_chapter_ring.specs.inner.RingBody.{IsRingOf, ring_of}
 
 module _ (earlier : List Entry) (c : Chapter) (stored : List StoredRecord) (counts : Counts) (g : IsRingOf earlier c stored counts) where
   -- the whole history

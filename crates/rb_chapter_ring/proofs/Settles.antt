@@ -26,7 +26,7 @@ use Rattle.rb_chapter_ring.specs.declared.record_end.RecordEnd.TheVariants.{Subm
 use Rattle.rb_chapter_ring.specs.inner.EndSteps.{contents_with_end}
 use Rattle.rb_chapter_ring.specs.inner.StandingSteps.{with_end}
 use Rattle.rb_chapter_ring.proofs.Settling.{ended}
-use Rattle.rb_chapter_ring.specs.inner.ChapterRingBody.{ring_of, IsStored, IsRingOf}
+use Rattle.rb_chapter_ring.specs.inner.RingBody.{ring_of, IsStored, IsRingOf}
 use Rattle.rb_chapter_ring.proofs.CountSteps.{counting_end, counts-end}
 use Rattle.rb_chapter_ring.proofs.Keeps.{longer-legal, keeps}
 use Rattle.rb_chapter_ring.proofs.Rows.{rows}

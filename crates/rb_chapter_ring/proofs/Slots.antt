@@ -8,7 +8,7 @@ use Rattle.rb_history.specs.declared.stored_records.RecordState.TheVariants.{Sub
 use Rattle.rb_history.specs.History.{Shown}
 use Rattle.rb_history.specs.History.Status.{Waiting, Discarded}
 use Rattle.rb_chapter_ring.specs.Standing.{no_record}
-use Rattle.rb_chapter_ring.specs.inner.ChapterRingBody.{stored_at, stored_from}
+use Rattle.rb_chapter_ring.specs.inner.RingBody.{stored_at, stored_from}
 
 -- worked examples with eight slots, which wrap around
 slots-go-round : ◌≡◌ {A = ℕ} (7 % 8) 7 × ◌≡◌ {A = ℕ} (8 % 8) 0 × ◌≡◌ {A = ℕ} (17 % 8) 1

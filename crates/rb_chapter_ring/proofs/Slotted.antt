@@ -20,7 +20,7 @@ use Rattle.rb_chapter_ring.specs.RecordEnds.{entry_of_end}
 use Rattle.rb_chapter_ring.specs.inner.EndSteps.{slots_with_end}
 use Rattle.rb_chapter_ring.proofs.Running.{closing-fits}
 use Rattle.rb_chapter_ring.specs.inner.Ordinals.{taken_before}
-use Rattle.rb_chapter_ring.specs.inner.ChapterRingBody.{stored_at, stored_from, stored_in, stored_of, ring_of, IsRingOf}
+use Rattle.rb_chapter_ring.specs.inner.RingBody.{stored_at, stored_from, stored_in, stored_of, ring_of, IsRingOf}
 use Rattle.rb_chapter_ring.proofs.Slots.{stored-here, stored-push, stored-behind, stored-submit, stored-discard}
 use Rattle.rb_chapter_ring.proofs.Grants.{newest, grant, few, refusal-closing, grant-closing}
 use Rattle.rb_chapter_ring.proofs.Settles.{state_of_end, within-now, end-closing}

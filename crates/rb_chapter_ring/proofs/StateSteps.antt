@@ -1,8 +1,6 @@
 -- What the calls of a ring with hands preserve of its book, and of the ordinals beside it.
-use Rattle.std.proofs.Common.{◌≡◌, ℕ, ◌-◌, ◌<◌, ◌≤◌, List, [], ◌∷◌, ◌++◌, Some, None, length, length-set, replicate, get_or, set, Result, Ok, Err, inl, inr, refl, sym, ap, subst, ◌∙◌, arith}
-use Rattle.std.specs.Prelude.{IfErr, IfOk, OnErr, OnOk}
+use Rattle.std.proofs.Common.{◌≡◌, ℕ, ◌-◌, ◌<◌, List, [], ◌++◌, Some, None, length, length-set, replicate, get_or, set, inl, inr, sym, ap, subst, ◌∙◌, arith}
 use Rattle.rb_history.specs.RoomRule.{Setup}
-use Rattle.rb_history.specs.declared.answers.Notice.{Notice}
 use Rattle.rb_history.specs.declared.entries.Entry.{Entry}
 use Rattle.rb_history.specs.ReservationModel.{Granted}
 use Rattle.rb_history.specs.declared.answers.Taken.{Taken}
@@ -15,14 +13,13 @@ use Rattle.rb_chapter_ring.specs.WholeHistory.{IsKept}
 use Rattle.rb_chapter_ring.specs.declared.faults.ReserveFault.{ReserveFault}
 use Rattle.rb_chapter_ring.specs.declared.faults.ReserveFault.TheVariants.{Full, Flags, ChapterFull, Foreign, HandsFull}
 use Rattle.rb_chapter_ring.proofs.Keeping.{calls-keep}
-use Rattle.rb_chapter_ring.specs.ManyTakes.{TakesEachInChapter}
 use Rattle.rb_chapter_ring.specs.OpenedRing.{opened_ring}
 use Rattle.rb_chapter_ring.specs.RingFaults.{RefusesInChapter}
-use Rattle.rb_chapter_ring.specs.inner.Ordinals.{IsHandState, HasOrdinal, KeepsNumbers, ordinal_at, taken_before}
+use Rattle.rb_chapter_ring.specs.inner.Ordinals.{IsHandState, HasBusyOrdinal, HasOrdinal, KeepsNumbers, ordinal_at, taken_before}
 use Rattle.rb_chapter_ring.proofs.FreedHands.{freed-stays}
 use Rattle.rb_chapter_ring.proofs.Ordinals.{busy-at-ordinal, opened-ordinals, ordinals-granted, ordinals-stay}
 use Rattle.rb_chapter_ring.specs.declared.out_record.OutRecord.{OutRecord}
-use Rattle.rb_chapter_ring.specs.Hands.{HandBook, free_book, hand_at, hands_of, out_record, with_hand}
+use Rattle.rb_chapter_ring.specs.Hands.{free_book, hand_at, hands_of, out_record, with_hand}
 use Rattle.rb_chapter_ring.specs.HandRing.{HandRing, hand_ring, HasHands, HasInHand, GrantsToHand}
 use Rattle.rb_chapter_ring.specs.RecordEnds.{EndsFromHand, Ends}
 use Rattle.rb_chapter_ring.specs.declared.record_end.RecordEnd.{RecordEnd}
@@ -44,19 +41,20 @@ out-below earlier v kept has hand r at =
     let low = in-ring v.ring.chapter.opening.setup _ v.hands legal has.shaped is r.worker r.serial (length r.bytes) r.pos b.granted_is in
     record { worker = low; four = below-four v.ring.chapter.opening.setup _ v.hands legal has.shaped is r.worker hand (out_record r.pos r.serial (length r.bytes)) low at }
 
--- a record in a hand is found by the ordinal that is stored for its hand
-pub found-by-ordinal : (earlier : List Entry) (v : HandRing) (ordinals : List (List ℕ)) → IsKept earlier v.ring.chapter → StandsForChapter v.ring → IsHandState v ordinals → (hand : ℕ) (r : Granted) → HasInHand v hand r
-    → (w : ℕ) (row : List ℕ) (taken : ℕ) → w ≡ r.worker → row ≡ get_or ordinals w row → taken ≡ taken_before (closing_of v.ring.chapter) → (taken ≤ get_or row hand 0) × IsBusyAt v.ring.shown (get_or row hand 0 - taken) r.pos (length r.bytes)
-found-by-ordinal earlier v ordinals kept stands state hand r out w row taken mine row_is taken_is =
+-- a record in a hand has the ordinal that is stored for its hand
+pub has-busy-ordinal : (earlier : List Entry) (v : HandRing) (ordinals : List (List ℕ)) → IsKept earlier v.ring.chapter → StandsForChapter v.ring → IsHandState v ordinals → (hand : ℕ) (r : Granted) → HasInHand v hand r
+    → (w : ℕ) (row : List ℕ) → w ≡ r.worker → row ≡ get_or ordinals w row → HasBusyOrdinal v.ring r (get_or row hand 0)
+has-busy-ordinal earlier v ordinals kept stands state hand r out w row mine row_is =
     let b = out-below earlier v kept state.has hand r out in
     let low : w < length ordinals = omega (arith, mine, b.worker, state.counted.workers) in
     let own : row ≡ get_or ordinals r.worker [] = row_is ∙ get_or-default ordinals w row [] low ∙ ap (λ u. get_or ordinals u []) mine in
     let number : get_or row hand 0 ≡ ordinal_at ordinals r.worker hand = ap (λ l. get_or l hand 0) own in
-    let there = busy-at-ordinal earlier v.ring.chapter kept r (ordinal_at ordinals r.worker hand) (in-hand-is-busy v hand r state.has out) (state.counted.numbered r.worker hand (out_record r.pos r.serial (length r.bytes)) out) in (
-      omega (arith, there.0, number, taken_is),
-      subst (λ ss. IsBusyAt ss (get_or row hand 0 - taken) r.pos (length r.bytes)) (sym stands.shown)
-          (subst (λ n. IsBusyAt (closing_of v.ring.chapter).records n r.pos (length r.bytes)) (sym (λ i. number i - taken_is i)) there.1),
-    )
+    let there = busy-at-ordinal earlier v.ring.chapter kept r (ordinal_at ordinals r.worker hand) (in-hand-is-busy v hand r state.has out) (state.counted.numbered r.worker hand (out_record r.pos r.serial (length r.bytes)) out) in
+    record {
+      passed = omega (arith, there.0, number);
+      here = subst (λ ss. IsBusyAt ss (get_or row hand 0 - taken_before (closing_of v.ring.chapter)) r.pos (length r.bytes)) (sym stands.shown)
+          (subst (λ n. IsBusyAt (closing_of v.ring.chapter).records n r.pos (length r.bytes)) (ap (λ n. n - taken_before (closing_of v.ring.chapter)) (sym number)) there.1);
+    }
 
 -- the commit of a record that was in a hand
 pub ends-from : (end : RecordEnd) (old new : HandRing) (hand : ℕ) (r : Granted) → HasInHand old hand r → Ends end r old.ring new.ring → new.hands ≡ with_hand old.hands r.worker hand None → EndsFromHand end hand r old new
@@ -82,26 +80,6 @@ module _ (earlier : List Entry) (old new : HandRing) (kept : IsKept earlier old.
 
   handed-keeps : (out : Chapter) → HandsOut old.ring new.ring out → new.hands ≡ old.hands → HasHands new
   handed-keeps = (keep-hands earlier old new kept has).hands_out
-
-  -- by the result of an output, and of handing out a chapter
-  output-answered : (w : ℕ) (bytes : List ℕ) → w < old.ring.chapter.opening.setup.workers → (answer : Result Notice (ReserveFault × List ℕ)) → OnOk answer (OutputsByChapter old.ring new.ring w bytes)
-      → IfErr answer (λ e. RefusesInChapter old.ring new.ring w (length bytes) e.0) → new.hands ≡ old.hands → HasHands new
-  output-answered w bytes low (Ok _) made refused same = output-keeps w bytes low made same
-  output-answered w bytes low (Err e) made refused same = refused-keeps w (length bytes) low e.0 refused same
-
-  handing-answered : (answer : Result Chapter Chapter) → IfOk answer (λ out. HandsOut old.ring new.ring out) → OnErr answer (new.ring ≡ old.ring) → new.hands ≡ old.hands → HasHands new
-  handing-answered (Ok out) handed unchanged same = handed-keeps out handed same
-  handing-answered (Err back) handed unchanged same = subst HasHands (λ i. hand_ring (sym unchanged i) (sym same i)) has
-
--- many takes do, too
-many-keep : (earlier : List Entry) (old new : ChapterRing) (book : HandBook) (ts : List Taken) → IsKept earlier old.chapter → HasHands (hand_ring old book) → TakesEachInChapter old ts new → HasHands (hand_ring new book)
-many-keep earlier old new book [] kept has same = subst (λ r. HasHands (hand_ring r book)) (sym same) has
-many-keep earlier old new book (t ∷ ts) kept has each =
-    many-keep earlier each.0 new book ts ((calls-keep earlier old each.0 kept).takes t each.1) (taken-keeps earlier (hand_ring old book) (hand_ring each.0 book) kept has t each.1 refl) each.3
-
-many-kept : (earlier : List Entry) (old new : ChapterRing) (ts : List Taken) → IsKept earlier old.chapter → TakesEachInChapter old ts new → IsKept earlier new.chapter
-many-kept earlier old new [] kept same = subst (λ (r : ChapterRing). IsKept earlier r.chapter) (sym same) kept
-many-kept earlier old new (t ∷ ts) kept each = many-kept earlier each.0 new ts ((calls-keep earlier old each.0 kept).takes t each.1) each.3
 
 -- ---- the ordinals
 
@@ -148,21 +126,14 @@ module _ (earlier : List Entry) (old new : HandRing) (ordinals : List (List ℕ)
   ended-holds Submit hand r h = frees ((calls-keep earlier old.ring new.ring kept).submits r h.submits) ((keep-hands earlier old new kept state.has).submits hand r h) hand r h.was_out h.freed
   ended-holds Discard hand r h = frees ((calls-keep earlier old.ring new.ring kept).discards r h.discards) ((keep-hands earlier old new kept state.has).discards hand r h) hand r h.was_out h.freed
 
-  pub output-holds : (w : ℕ) (bytes : List ℕ) → w < old.ring.chapter.opening.setup.workers → (answer : Result Notice (ReserveFault × List ℕ)) → OnOk answer (OutputsByChapter old.ring new.ring w bytes) → IfErr answer (λ e. RefusesInChapter old.ring new.ring w (length bytes) e.0) → new.hands ≡ old.hands → IsHandState new ordinals
-  output-holds w bytes low (Ok n) made refused same = stays earlier ((calls-keep earlier old.ring new.ring kept).outputs w bytes low made) (output-keeps earlier old new kept state.has w bytes low made same) same
-  output-holds w bytes low (Err e) made refused same = refused-holds w (length bytes) low e.0 refused same
+  pub output-holds : (w : ℕ) (bytes : List ℕ) → w < old.ring.chapter.opening.setup.workers → OutputsByChapter old.ring new.ring w bytes → new.hands ≡ old.hands → IsHandState new ordinals
+  output-holds w bytes low made same = stays earlier ((calls-keep earlier old.ring new.ring kept).outputs w bytes low made) (output-keeps earlier old new kept state.has w bytes low made same) same
 
   pub taken-holds : (t : Taken) → TakesByChapter old.ring new.ring t → new.hands ≡ old.hands → IsHandState new ordinals
   taken-holds t takes same = stays earlier ((calls-keep earlier old.ring new.ring kept).takes t takes) (taken-keeps earlier old new kept state.has t takes same) same
 
-  pub many-hold : (ts : List Taken) → TakesEachInChapter old.ring ts new.ring → new.hands ≡ old.hands → IsHandState new ordinals
-  many-hold ts each same =
-      stays earlier (many-kept earlier old.ring new.ring ts kept each)
-      (subst (λ b. HasHands (hand_ring new.ring b)) (sym same) (many-keep earlier old.ring new.ring old.hands ts kept state.has each)) same
-
-  pub handing-holds : (answer : Result Chapter Chapter) → IfOk answer (λ out. HandsOut old.ring new.ring out) → OnErr answer (new.ring ≡ old.ring) → new.hands ≡ old.hands → IsHandState new ordinals
-  handing-holds (Ok out) handed unchanged same = stays (earlier ++ out.entries) ((calls-keep earlier old.ring new.ring kept).hands_out out handed) (handed-keeps earlier old new kept state.has out handed same) same
-  handing-holds (Err back) handed unchanged same = stays earlier (subst (λ (r : ChapterRing). IsKept earlier r.chapter) (sym unchanged) kept) (handing-answered earlier old new kept state.has (Err back) handed unchanged same) same
+  pub handed-holds : (out : Chapter) → HandsOut old.ring new.ring out → new.hands ≡ old.hands → IsHandState new ordinals
+  handed-holds out handed same = stays (earlier ++ out.entries) ((calls-keep earlier old.ring new.ring kept).hands_out out handed) (handed-keeps earlier old new kept state.has out handed same) same
 
 -- a new ring has free hands
 opened-has : (room : ℕ) (r : Setup) → HasHands (hand_ring (opened_ring room r) (free_book r.workers))

@@ -32,7 +32,7 @@ use Rattle.rb_chapter_ring.proofs.Alike.{calls-alike}
 use Rattle.rb_chapter_ring.proofs.Settling.{taken, takes-behind}
 use Rattle.rb_chapter_ring.specs.OpenedRing.{capped_counts}
 use Rattle.rb_chapter_ring.specs.inner.Ordinals.{taken_before}
-use Rattle.rb_chapter_ring.specs.inner.ChapterRingBody.{ring_of, IsStored, IsRingOf}
+use Rattle.rb_chapter_ring.specs.inner.RingBody.{ring_of, IsStored, IsRingOf}
 use Rattle.rb_chapter_ring.proofs.CountSteps.{counting_take, counts-take, made-taken}
 use Rattle.rb_chapter_ring.proofs.Keeps.{longer-legal, keeps}
 use Rattle.rb_chapter_ring.proofs.Rows.{rows}

@@ -14,7 +14,7 @@ use Rattle.rb_chapter_ring.specs.Standing.{shown_count, counts_at}
 use Rattle.rb_chapter_ring.specs.Chapters.{Chapter, closing_of}
 use Rattle.rb_chapter_ring.specs.ChapterRoom.{owed_for, owed}
 use Rattle.rb_chapter_ring.specs.inner.Ordinals.{taken_before}
-use Rattle.rb_chapter_ring.specs.inner.ChapterRingBody.{IsRingOf}
+use Rattle.rb_chapter_ring.specs.inner.RingBody.{IsRingOf}
 use Rattle.rb_chapter_ring.proofs.CountSteps.{bit, countable}
 use Rattle.rb_chapter_ring.proofs.Rows.{legal, said}
 

@@ -13,7 +13,7 @@ use Rattle.rb_chapter_ring.proofs.Running.{closing-none}
 use Rattle.rb_chapter_ring.proofs.Room.{next-room}
 use Rattle.rb_chapter_ring.specs.OpenedRing.{capped_counts, MayGoOnIn}
 use Rattle.rb_chapter_ring.specs.inner.Ordinals.{taken_before}
-use Rattle.rb_chapter_ring.specs.inner.ChapterRingBody.{ring_of, IsStored, IsRingOf}
+use Rattle.rb_chapter_ring.specs.inner.RingBody.{ring_of, IsStored, IsRingOf}
 
 module _ (earlier : List Entry) (c : Chapter) (stored : List StoredRecord) (counts : Counts) (g : IsRingOf earlier c stored counts) (d : Chapter) (meets : Meets c d) (none : d.entries ≡ []) (room : d.room ≡ c.room) where
   -- the summary does not change

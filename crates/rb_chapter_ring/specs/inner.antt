@@ -5,4 +5,5 @@ pub mod ChapterBody
 pub mod EndSteps
 pub mod StandingSteps
 pub mod Ordinals
-pub mod ChapterRingBody
+pub mod ChapterSteps
+pub mod RingBody

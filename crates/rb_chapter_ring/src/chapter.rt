@@ -1,18 +1,20 @@
 //! A chapter as a value.
 
-ghost use Rattle.std.specs.Prelude.{◌≡◌, ◌+◌, ◌-◌, ◌<◌, ◌≤◌, ◌^◌, ◌↔◌, ◌++◌, ◌∷◌, [], IfOk, IsTrue, List, vec_len, vec_capacity};
+ghost use Rattle.std.specs.Prelude.{◌≡◌, ◌+◌, ◌-◌, ◌<◌, ◌≤◌, ◌^◌, ◌↔◌, ◌++◌, ◌∷◌, [], IfOk, IfErr, IsTrue, List, vec_len, vec_capacity};
 ghost use Rattle.rb_history.specs.Span.{span};
 ghost use Rattle.rb_history.specs.declared.entries.Entry.{Entry};
-ghost use Rattle.rb_history.specs.declared.entries.Entry.TheVariants.{Res, Full, Take};
+ghost use Rattle.rb_history.specs.declared.entries.Entry.TheVariants.{Full, Take};
 ghost use Rattle.rb_history.specs.RingModel.{IsWorkerCount};
 ghost use Rattle.rb_chapter_ring.specs.Chapters.{IsChapterRoom, empty_chapter, first_chapter, closing_of, Meets};
 ghost use Rattle.rb_chapter_ring.specs.ChapterRoom.{used, owed, MayGrant, MayRefuse, record_now, IsBusyNow, HasSettledFront, with_entry};
-ghost use Rattle.rb_chapter_ring.specs.CountedFrom.{HasRoomFrom, grants_from, producer_from, consumer_from};
+ghost use Rattle.rb_chapter_ring.specs.CountedFrom.{HasRoomFrom, consumer_from};
 ghost use Rattle.rb_chapter_ring.specs.WholeHistory.{IsKept};
 ghost use Rattle.rb_chapter_ring.specs.RecordEnds.{entry_of_end};
+ghost use Rattle.rb_chapter_ring.specs.inner.ChapterSteps.{GrantsRecord, RefusesRecord};
 
 use crate::entries::Entries;
 use crate::entry_words::{end_word, grant_word, refusal_word, take_word};
+use crate::faults::ReserveFault;
 use crate::record_end::RecordEnd;
 use crate::standing::Standing;
 use rb_history::{POSITION_LIMIT, span};
@@ -132,9 +134,41 @@ impl Chapter {
         self.owed = earlier.owed;
     }
 
-    /// Logs a refusal: the worker requested `len` bytes, and the ring has no room for them. Takes constant time and
-    /// does not allocate.
-    pub(crate) fn log_refusal(&mut self, worker: u32, len: u32)
+    #[inline(always)]
+    /// Grants the worker the next record, of `len` bytes, at the producer position, if the ring has room for it and this
+    /// chapter for all entries that it will log. Returns the record's position and serial. Otherwise logs that the ring
+    /// has no room, if the chapter has room for that. Takes constant time and does not allocate.
+    pub(crate) fn grant(&mut self, worker: u32, len: u32) -> Result<(u64, u64), ReserveFault>
+        requires worker { worker < self.old.opening.setup.workers }
+        ensures granted { IfOk result (λ g. GrantsRecord self.old self.new worker len g.0 g.1) }
+        ensures refused { IfErr result (λ e. RefusesRecord self.old self.new worker len e) }
+    {
+        if !self.has_room(len) {
+            return Err(self.refuse(worker, len));
+        }
+        if !self.may_grant() {
+            return Err(ReserveFault::ChapterFull);
+        }
+        Ok(self.log_grant(worker, len))
+    }
+
+    #[cold]
+    #[inline(never)]
+    // Logs that the ring has no room, if the chapter has room for that entry.
+    fn refuse(&mut self, worker: u32, len: u32) -> ReserveFault
+        requires worker { worker < self.old.opening.setup.workers }
+        requires no_room { ¬ HasRoomFrom self.old.opening self.old.entries len }
+        ensures refused { RefusesRecord self.old self.new worker len result }
+    {
+        if !self.may_refuse(worker) {
+            return ReserveFault::ChapterFull;
+        }
+        self.log_refusal(worker, len);
+        ReserveFault::Full
+    }
+
+    // Logs a refusal: the worker requested `len` bytes, and the ring has no room for them.
+    fn log_refusal(&mut self, worker: u32, len: u32)
         requires worker { worker < self.old.opening.setup.workers }
         requires no_room { ¬ HasRoomFrom self.old.opening self.old.entries len }
         requires chapter_room { MayRefuse self.old worker }
@@ -144,18 +178,20 @@ impl Chapter {
         log(&mut self.words, refusal_word(worker, len));
     }
 
-    /// Logs a grant: the worker is granted the next record, of `len` bytes, at the producer position. Takes constant
-    /// time and does not allocate.
-    pub(crate) fn log_grant(&mut self, worker: u32, len: u32)
+    // Logs a grant: the worker is granted the next record, of `len` bytes, at the producer position. Returns the
+    // record's position and serial.
+    fn log_grant(&mut self, worker: u32, len: u32) -> (u64, u64)
         requires worker { worker < self.old.opening.setup.workers }
         requires room { HasRoomFrom self.old.opening self.old.entries len }
         requires chapter_room { MayGrant self.old }
-        ensures logged { self.new ≡ with_entry self.old (Res worker (grants_from self.old.opening worker self.old.entries) len (producer_from self.old.opening self.old.entries)) }
+        ensures granted { GrantsRecord self.old self.new worker len result.0 result.1 }
     {
+        let pos = self.closing.numbers().producer;
         let serial = self.closing.add_grant(worker, len);
         let later = serial - self.opening.made(worker);
         self.owed += 2;
         log(&mut self.words, grant_word(worker, later, len));
+        (pos, serial)
     }
 
     #[inline(always)]
@@ -233,8 +269,8 @@ impl Chapter {
         self.owed
     }
 
-    /// Returns whether the ring has room for a record of `len` bytes, by the room rule. Takes constant time.
-    pub(crate) fn has_room(&self, len: u32) -> bool
+    // Returns whether the ring has room for a record of `len` bytes, by the room rule.
+    fn has_room(&self, len: u32) -> bool
         ensures exact { IsTrue result ↔ HasRoomFrom self.now.opening self.now.entries len }
     {
         let numbers = self.closing.numbers();
@@ -249,9 +285,9 @@ impl Chapter {
         self.used() + self.owed + 3 <= self.room
     }
 
-    /// Returns whether a refusal of the worker may be logged: the chapter has room, and the worker has fewer than 2^62
-    /// refusals. Takes constant time.
-    pub(crate) fn may_refuse(&self, worker: u32) -> bool
+    // Returns whether a refusal of the worker may be logged: the chapter has room, and the worker has fewer than 2^62
+    // refusals.
+    fn may_refuse(&self, worker: u32) -> bool
         requires worker { worker < self.now.opening.setup.workers }
         ensures exact { IsTrue result ↔ MayRefuse self.now worker }
     {

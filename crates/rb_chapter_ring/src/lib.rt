@@ -9,8 +9,7 @@
 //! a record that is in a hand can be submitted or discarded without a refusal. For tests, `rb_for_tests` has a ring
 //! with the same calls that keeps its whole history.
 //!
-//! `RingState` is the ring for one thread; its reservations name its tag. `HandState` is the state that a shared ring
-//! keeps under its lock.
+//! `RingState` is the ring, for one thread; its reservations name its tag. A shared ring keeps one under its lock.
 //!
 //! ```text
 //! let mut ring = RingState::new(rt.alloc(), 7, 4096, 0, 1, 8)?;
@@ -70,17 +69,14 @@
 
 mod chapter;
 mod chapter_laws;
-mod chapter_state;
 mod counting;
 mod entries;
 mod entry_words;
 mod faults;
 mod finding;
 mod hand_laws;
-mod hand_state;
 mod hand_table;
 mod hands;
-mod many_takes;
 mod out_record;
 mod record_end;
 mod reservation;
@@ -94,7 +90,6 @@ pub use chapter_laws::{calls_are_alike, chapters_join, counted_from_the_opening,
 pub use entries::Entries;
 pub use faults::{OpenFault, ReserveFault};
 pub use hand_laws::{book_goes_on, each_call_keeps_hands, one_hand_changes};
-pub use hand_state::HandState;
 pub use hands::lowest_free;
 pub use out_record::OutRecord;
 pub use record_end::RecordEnd;

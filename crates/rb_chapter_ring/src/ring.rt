@@ -1,41 +1,51 @@
-//! A ring for one thread.
+//! A ring for one thread: its parts, and what is read of them.
 
-ghost use Rattle.std.specs.Prelude.{List, ◌≡◌, ◌≢◌, ◌<◌, ◌≤◌, ◌+◌, ◌++◌, ◌↔◌, IfOk, IfErr, IfSome, IfNone, IsErrOf, IsOk, IsTrue, OnOk, OnErr, length, replicate, vec_len, vec_capacity};
+ghost use Rattle.std.specs.Prelude.{List, ◌≡◌, ◌<◌, ◌+◌, ◌↔◌, IfOk, IfSome, IfNone, IsErrOf, IsTrue, length};
 ghost use Rattle.rb_history.specs.RingModel.{IsRingSize, IsStartPosition, IsWorkerCount};
-ghost use Rattle.rb_history.specs.declared.answers.Notice.TheVariants.{Due};
-ghost use Rattle.rb_history.specs.NoticesAndQueries.{IsDue};
-ghost use Rattle.rb_history.specs.ManyTakes.{pushed};
-ghost use Rattle.rb_history.specs.declared.answers.Taken.TheVariants.{BusyFront, Empty};
 ghost use Rattle.rb_history.specs.declared.entries.Entry.{Entry};
-ghost use Rattle.rb_chapter_ring.specs.Chapters.{IsChapterRoom};
+ghost use Rattle.rb_chapter_ring.specs.Chapters.{IsChapterRoom, closing_of};
 ghost use Rattle.rb_chapter_ring.specs.CountedFrom.{query_answer_from};
-ghost use Rattle.rb_chapter_ring.specs.ChapterCalls.{AllTakenByChapter, HandsOut, HasBusyFrontByChapter, IsSameChapter, OutputsByChapter, TakesByChapter, consumer_by_chapter, producer_by_chapter};
 ghost use Rattle.rb_chapter_ring.specs.ChapterRing.{StandsForChapter};
 ghost use Rattle.rb_chapter_ring.specs.WholeHistory.{IsKept};
-ghost use Rattle.rb_chapter_ring.specs.declared.faults.ReserveFault.TheVariants.{Flags};
-ghost use Rattle.rb_chapter_ring.specs.ManyTakes.{TakesManyInChapter};
-ghost use Rattle.rb_chapter_ring.specs.OpenedRing.{IsChapterRingWithin, MayGoOnIn, opened_ring, told_counts};
-ghost use Rattle.rb_chapter_ring.specs.RingFaults.{RefusesInChapter};
-ghost use Rattle.rb_chapter_ring.specs.Hands.{AreAllOut, IsFree, IsLowestFree, free_book, hands_of};
-ghost use Rattle.rb_chapter_ring.specs.RecordEnds.{EndsFromHand};
-ghost use Rattle.rb_chapter_ring.specs.HandRing.{hand_ring, HasHands, HasInHand, GrantsToHand, SubmitsFromHand, DiscardsFromHand};
+ghost use Rattle.rb_chapter_ring.specs.OpenedRing.{IsChapterRingWithin, opened_ring, told_counts};
+ghost use Rattle.rb_chapter_ring.specs.Hands.{AreAllOut, IsLowestFree, free_book, hands_of};
+ghost use Rattle.rb_chapter_ring.specs.HandRing.{hand_ring, HasHands, HasInHand};
+ghost use Rattle.rb_chapter_ring.specs.inner.Ordinals.{taken_before};
 
-use crate::Chapter;
-use crate::faults::{OpenFault, ReserveFault};
-use crate::hand_state::HandState;
-use crate::record_end::RecordEnd;
+mod commit;
+mod hand_out;
+mod output;
+mod reserve;
+mod take;
+
+use crate::faults::OpenFault;
+use crate::hand_table::{free_table, no_ordinals};
 use crate::reservation::Reservation;
-use rb_history::{Counts, Notice, Taken};
+use crate::setup::{check_setup, empty_sheets, slots_for};
+use crate::{Chapter, OutRecord, lowest_free};
+use rb_history::{AVAIL_DATA, CONS_POS, Counts, PROD_POS, RING_SIZE};
 use rb_lend::Sheet;
 use std::alloc::Global;
 use std::marker::Model;
 
 /// A ring of records for one thread, whose reservations name its tag. Contracts see its tag, its chapter, the bytes of
 /// its waiting records, what it shows, and its book of hands.
+///
+/// The untaken records are those of the chapter, in the order of their grants. A record's ordinal is the number of
+/// records that were granted before it; its index is its ordinal minus the number of records that were taken.
 #[derive(Drop)]
 pub struct RingState {
     tag: u64,
-    state: HandState,
+    chapter: Chapter,
+    // The bytes of each waiting record, in the slot of its ordinal. There are as many slots as there can be records at
+    // once, and they are used as a circular buffer.
+    sheets: Vec<Sheet>,
+    // The record in each hand of each worker, and its ordinal.
+    hands: Vec<[Option<OutRecord>; 4]>,
+    ordinals: Vec<[u64; 4]>,
+    // The refusals, saturating at `u64::MAX`, and the discards. The other counts follow from the chapter.
+    refused: u64,
+    discarded: u64,
 }
 
 impl Model for RingState {
@@ -45,12 +55,15 @@ impl Model for RingState {
     ghost use Rattle.rb_history.specs.contracts.tally.Tally as tally_row;
     ghost use Rattle.rb_chapter_ring.specs.contracts.out_record.OutRecord as out_row;
     ghost use Rattle.rb_chapter_ring.specs.TaggedRing.{TaggedRing};
+    ghost use Rattle.rb_chapter_ring.specs.inner.RingBody.{ring_shown, parts_of, IsRingState};
 
     ghost Value = { TaggedRing };
 
     ghost coded = { Prim.hlevel (codes, contents_code, entry.the_row.coded, tally_row.the_row.coded, out_row.the_row.coded) };
 
-    ghost view = { λ s. record { tag = s.tag; state = s.state } };
+    ghost view = { ring_shown };
+
+    ghost invariant = { λ s. IsRingState (parts_of s) s.hands.items s.ordinals.items };
 }
 
 impl RingState {
@@ -74,8 +87,29 @@ impl RingState {
         ensures workers { IsErrOf result OpenFault.Workers ↔ (IsRingSize size × IsStartPosition start × ¬ IsWorkerCount workers) }
         ensures chapter { IsErrOf result OpenFault.Chapter ↔ (IsRingSize size × IsStartPosition start × IsWorkerCount workers × ¬ IsChapterRoom room) }
     {
-        let state = HandState::new(alloc, size, start, workers, room)?;
-        Ok(RingState { tag, state })
+        check_setup(size, start, workers, room)?;
+        let Ok(mut chapter) = Chapter::new(alloc, room, workers) else {
+            return Err(OpenFault::Memory);
+        };
+        chapter.open_first(size, start);
+        let Ok(sheets) = empty_sheets(alloc, slots_for(size, room)) else {
+            return Err(OpenFault::Memory);
+        };
+        let Ok(hands) = free_table(alloc, workers) else {
+            return Err(OpenFault::Memory);
+        };
+        let Ok(ordinals) = no_ordinals(alloc, workers) else {
+            return Err(OpenFault::Memory);
+        };
+        Ok(RingState {
+            tag,
+            chapter,
+            sheets,
+            hands,
+            ordinals,
+            refused: 0,
+            discarded: 0,
+        })
     }
 
     #[inline(always)]
@@ -84,6 +118,16 @@ impl RingState {
         ensures tag { result ≡ self.now.tag }
     {
         self.tag
+    }
+
+    #[inline(always)]
+    /// Sets the tag that reservations name from then on. A reservation may be committed whatever its tag is; a caller
+    /// with several rings compares it.
+    pub fn set_tag(&mut self, tag: u64)
+        ensures tag { self.new.tag ≡ tag }
+        ensures same_state { self.new.state ≡ self.old.state }
+    {
+        self.tag = tag;
     }
 
     #[inline(always)]
@@ -96,7 +140,7 @@ impl RingState {
         ensures bounded { IsChapterRingWithin self.now.state.ring }
         ensures hands { HasHands self.now.state }
     {
-        self.state.facts();
+        let _ = &self.chapter;
     }
 
     #[inline(always)]
@@ -104,7 +148,7 @@ impl RingState {
     pub fn chapter(&self) -> &Chapter
         ensures chapter { result.now ≡ self.now.state.ring.chapter }
     {
-        self.state.chapter()
+        &self.chapter
     }
 
     /// Returns the answer to a query (bpf-helpers(7), bpf_ringbuf_query): the number of bytes between the two positions
@@ -113,7 +157,14 @@ impl RingState {
     pub fn query(&self, what: u64) -> u64
         ensures answer { result ≡ query_answer_from self.now.state.ring.chapter.opening self.now.state.ring.chapter.entries what }
     {
-        self.state.query(what)
+        let numbers = self.chapter.closing().numbers();
+        match what {
+            AVAIL_DATA => numbers.producer - numbers.consumer,
+            RING_SIZE => numbers.size,
+            CONS_POS => numbers.consumer,
+            PROD_POS => numbers.producer,
+            _ => 0,
+        }
     }
 
     /// Returns the six totals since the ring was opened. The refusal count saturates at `u64::MAX`. Takes constant
@@ -121,7 +172,18 @@ impl RingState {
     pub fn counts(&self) -> Counts
         ensures counts { result ≡ told_counts self.now.state.ring }
     {
-        self.state.counts()
+        let numbers = self.chapter.closing().numbers();
+        let there = self.many() as u64;
+        let made = numbers.consumed + numbers.skipped + there;
+        let busy = u64::from(self.chapter.owed()) - there;
+        Counts {
+            made,
+            refused: self.refused,
+            consumed: numbers.consumed,
+            discarded: self.discarded,
+            waiting: made - busy - numbers.consumed - self.discarded,
+            busy,
+        }
     }
 
     #[inline(always)]
@@ -131,7 +193,7 @@ impl RingState {
         ensures free { IfSome result (λ hand. IsLowestFree (hands_of self.now.state.hands worker) hand) }
         ensures all_out { IfNone result (AreAllOut (hands_of self.now.state.hands worker)) }
     {
-        self.state.free_hand(worker)
+        lowest_free(&self.hands[worker as usize])
     }
 
     #[inline(always)]
@@ -140,163 +202,33 @@ impl RingState {
     pub fn is_out(&self, reservation: &Reservation) -> bool
         ensures exact { IsTrue result ↔ HasInHand self.now.state reservation.now.hand reservation.now.granted }
     {
-        self.state.is_out(reservation)
+        let worker = reservation.worker() as usize;
+        worker < self.hands.len() && reservation.is_in(&self.hands[worker])
     }
 
     #[inline(always)]
-    /// Grants worker `worker` a record of `n` bytes, all zeros, at the producer position into this hand, if the ring
-    /// has room for it and the chapter for all entries that it will log. The record uses `sheet`, which must have `n`
-    /// bytes and is cleared. (bpf-helpers(7), bpf_ringbuf_reserve.)
-    ///
-    /// `Full` is logged: the ring has no room. `ChapterFull` changes nothing: the chapter has no room for the entries
-    /// that would be logged. A refusal returns the sheet. Takes constant time, except for clearing the bytes, and does
-    /// not allocate.
-    pub fn reserve(
-        &mut self,
-        worker: u32,
-        hand: u32,
-        n: u32,
-        sheet: Sheet,
-    ) -> Result<Reservation, (ReserveFault, Sheet)>
-        requires worker { worker < self.old.state.ring.chapter.opening.setup.workers }
-        requires hand { IsFree (hands_of self.old.state.hands worker) hand }
-        requires sized { length sheet ≡ n }
-        ensures same_tag { self.new.tag ≡ self.old.tag }
-        ensures same_chapter { IsSameChapter self.old.state.ring self.new.state.ring }
-        ensures granted { IfOk result (λ r. GrantsToHand self.old.state self.new.state worker hand n r.granted.pos r.granted.serial) }
-        ensures tag { IfOk result (λ r. r.tag ≡ self.old.tag) }
-        ensures hand { IfOk result (λ r. r.hand ≡ hand) }
-        ensures worker { IfOk result (λ r. r.granted.worker ≡ worker) }
-        ensures zeros { IfOk result (λ r. r.granted.bytes ≡ replicate n 0) }
-        ensures out { IfOk result (λ r. HasInHand self.new.state r.hand r.granted) }
-        ensures refused { IfErr result (λ e. RefusesInChapter self.old.state.ring self.new.state.ring worker n e.0) }
-        ensures same_hands { IfErr result (λ e. self.new.state.hands ≡ self.old.state.hands) }
-        ensures known_flags { IfErr result (λ e. e.0 ≢ Flags) }
-        ensures handed_back { IfErr result (λ e. e.1 ≡ sheet) }
+    // Returns the number of untaken records.
+    fn many(&self) -> usize
+        ensures many { result ≡ length self.now.state.ring.shown }
     {
-        self.state.reserve(self.tag, worker, hand, n, sheet)
+        self.chapter.closing().records().len()
     }
 
     #[inline(always)]
-    /// Submits the reservation's record, so that the consumer can take it with its bytes, and frees its hand. The
-    /// record is in that hand, so it is busy and never refused. (bpf-helpers(7), bpf_ringbuf_submit.)
-    ///
-    /// Only bits 0 and 1 of the flags are used. Takes constant time and does not allocate.
-    pub fn submit(&mut self, reservation: Reservation, flags: u64) -> Notice
-        requires out { HasInHand self.old.state reservation.hand reservation.granted }
-        ensures same_tag { self.new.tag ≡ self.old.tag }
-        ensures same_chapter { IsSameChapter self.old.state.ring self.new.state.ring }
-        ensures submitted { SubmitsFromHand self.old.state self.new.state reservation.hand reservation.granted }
-        ensures notice { (result ≡ Due) ↔ IsDue (consumer_by_chapter self.old.state.ring) reservation.granted.pos flags }
+    // Returns the number of records that were taken, which is the ordinal of the record at the front.
+    fn taken(&self) -> u64
+        ensures taken { result ≡ taken_before (closing_of self.now.state.ring.chapter) }
     {
-        self.state.settle(reservation, RecordEnd::Submit, flags)
+        let numbers = self.chapter.closing().numbers();
+        numbers.consumed + numbers.skipped
     }
 
     #[inline(always)]
-    /// Discards the reservation's record, so that the consumer skips it, and frees its hand. The record is in that
-    /// hand, so it is busy and never refused. (bpf-helpers(7), bpf_ringbuf_discard.)
-    ///
-    /// Only bits 0 and 1 of the flags are used. Takes constant time and does not allocate.
-    pub fn discard(&mut self, reservation: Reservation, flags: u64) -> Notice
-        requires out { HasInHand self.old.state reservation.hand reservation.granted }
-        ensures same_tag { self.new.tag ≡ self.old.tag }
-        ensures same_chapter { IsSameChapter self.old.state.ring self.new.state.ring }
-        ensures discarded { DiscardsFromHand self.old.state self.new.state reservation.hand reservation.granted }
-        ensures notice { (result ≡ Due) ↔ IsDue (consumer_by_chapter self.old.state.ring) reservation.granted.pos flags }
+    // Returns the ordinal of the record that is granted next.
+    fn next_ordinal(&self) -> u64
+        ensures ordinal { result ≡ taken_before (closing_of self.now.state.ring.chapter) + length (closing_of self.now.state.ring.chapter).records }
     {
-        self.state.settle(reservation, RecordEnd::Discard, flags)
-    }
-
-    #[inline(always)]
-    /// Submits or discards the reservation's record, as `end` says, and frees its hand. The record is in that hand, so
-    /// it is busy and never refused. (Linux kernel/bpf/ringbuf.c, bpf_ringbuf_commit.)
-    ///
-    /// Only bits 0 and 1 of the flags are used. Takes constant time and does not allocate.
-    pub fn settle(&mut self, reservation: Reservation, end: RecordEnd, flags: u64) -> Notice
-        requires out { HasInHand self.old.state reservation.hand reservation.granted }
-        ensures same_tag { self.new.tag ≡ self.old.tag }
-        ensures same_chapter { IsSameChapter self.old.state.ring self.new.state.ring }
-        ensures ended { EndsFromHand end reservation.hand reservation.granted self.old.state self.new.state }
-        ensures notice { (result ≡ Due) ↔ IsDue (consumer_by_chapter self.old.state.ring) reservation.granted.pos flags }
-    {
-        self.state.settle(reservation, end, flags)
-    }
-
-    #[inline(always)]
-    /// Grants worker `worker` a record with the sheet's bytes and submits it in the same call. It needs no hand.
-    /// (bpf-helpers(7), bpf_ringbuf_output.)
-    ///
-    /// Refuses unknown flags first, which is not logged; otherwise it refuses as `reserve` does. A refusal returns the
-    /// sheet. Takes constant time and does not allocate.
-    pub fn output(
-        &mut self,
-        worker: u32,
-        sheet: Sheet,
-        flags: u64,
-    ) -> Result<Notice, (ReserveFault, Sheet)>
-        requires worker { worker < self.old.state.ring.chapter.opening.setup.workers }
-        ensures same_tag { self.new.tag ≡ self.old.tag }
-        ensures same_chapter { IsSameChapter self.old.state.ring self.new.state.ring }
-        ensures granted { OnOk result (OutputsByChapter self.old.state.ring self.new.state.ring worker sheet) }
-        ensures notice { IfOk result (λ n. (n ≡ Due) ↔ IsDue (consumer_by_chapter self.old.state.ring) (producer_by_chapter self.old.state.ring) flags) }
-        ensures known_flags { OnOk result (flags ≤ 3) }
-        ensures flags { IfErr result (λ e. (e.0 ≡ Flags) ↔ (3 < flags)) }
-        ensures refused { IfErr result (λ e. RefusesInChapter self.old.state.ring self.new.state.ring worker (length sheet) e.0) }
-        ensures same_hands { self.new.state.hands ≡ self.old.state.hands }
-        ensures handed_back { IfErr result (λ e. e.1 ≡ sheet) }
-    {
-        self.state.output(worker, sheet, flags)
-    }
-
-    #[inline(always)]
-    /// Takes the record at the consumer position: returns a submitted one, or skips a discarded one. A busy record
-    /// stops it, whatever waits after that record. (Linux Documentation/bpf/ringbuf.rst: records are consumed in the
-    /// order of their reservation.)
-    ///
-    /// Takes constant time and does not allocate.
-    pub fn take(&mut self) -> Taken
-        ensures same_tag { self.new.tag ≡ self.old.tag }
-        ensures same_chapter { IsSameChapter self.old.state.ring self.new.state.ring }
-        ensures takes { TakesByChapter self.old.state.ring self.new.state.ring result }
-        ensures busy_front { (result ≡ BusyFront) ↔ HasBusyFrontByChapter self.old.state.ring }
-        ensures empty { (result ≡ Empty) ↔ AllTakenByChapter self.old.state.ring }
-        ensures same_hands { self.new.state.hands ≡ self.old.state.hands }
-    {
-        self.state.take()
-    }
-
-    /// Takes up to `n` records, as `n` calls of `take`, and pushes each that was returned or skipped onto `out`.
-    /// Returns how many these are. (Linux Documentation/bpf/ringbuf.rst: records are consumed in the order of their
-    /// reservation.)
-    ///
-    /// It stops before the first take that finds a busy record or no record, so it pushes neither `BusyFront` nor
-    /// `Empty`. Takes constant time for each record and does not allocate.
-    pub fn take_many(&mut self, n: usize, out: &mut Vec<Taken>) -> usize
-        requires room { vec_len out.old + n ≤ vec_capacity out.old }
-        ensures same_tag { self.new.tag ≡ self.old.tag }
-        ensures same_chapter { IsSameChapter self.old.state.ring self.new.state.ring }
-        ensures takes { TakesManyInChapter n (pushed out.old.items out.new.items) self.old.state.ring self.new.state.ring }
-        ensures same_hands { self.new.state.hands ≡ self.old.state.hands }
-        ensures kept { out.new.items ≡ out.old.items ++ pushed out.old.items out.new.items }
-        ensures count { result ≡ length (pushed out.old.items out.new.items) }
-        ensures capacity { vec_capacity out.new ≡ vec_capacity out.old }
-    {
-        self.state.take_many(n, out)
-    }
-
-    /// Hands out the chapter as it is. The ring continues in `empty`, which becomes the next chapter; its opening is
-    /// the summary of the old one at its end.
-    ///
-    /// Returns `empty` if it has entries, or another room or number of workers, or if the old chapter's number is 2^62.
-    /// Takes time linear in the numbers of untaken records and of workers, and does not allocate.
-    pub fn hand_out(&mut self, empty: Chapter) -> Result<Chapter, Chapter>
-        ensures handed_out { IfOk result (λ out. HandsOut self.old.state.ring self.new.state.ring out) }
-        ensures fit { IsOk result ↔ MayGoOnIn self.old.state.ring empty }
-        ensures same_tag { self.new.tag ≡ self.old.tag }
-        ensures same_hands { self.new.state.hands ≡ self.old.state.hands }
-        ensures handed_back { IfErr result (λ back. back ≡ empty) }
-        ensures unchanged { OnErr result (self.new ≡ self.old) }
-    {
-        self.state.hand_out(empty)
+        let numbers = self.chapter.closing().numbers();
+        numbers.consumed + numbers.skipped + self.many() as u64
     }
 }

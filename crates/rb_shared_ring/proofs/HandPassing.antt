@@ -19,6 +19,7 @@ use Rattle.rb_ledger.proofs.ChapterSteps.{has-same, handed-out-same}
 use Rattle.rb_chapter_ring.specs.declared.out_record.OutRecord.{OutRecord}
 use Rattle.rb_chapter_ring.specs.Hands.{out_record, Hands, in_hand, hands_of, hand_at, with_hand, IsFree}
 use Rattle.rb_chapter_ring.specs.HandRing.{HandRing, HasHands, HasInHand}
+use Rattle.rb_chapter_ring.specs.TaggedRing.{TaggedRing}
 use Rattle.rb_chapter_ring.proofs.ChangedHands.{own-hands}
 use Rattle.rb_chapter_ring.proofs.HandCalls.{to-whole}
 use Rattle.rb_ledger.specs.HandKnowledge.{HandPassView, hand_view, without_hands, cut_of, KnowsHands, AllKnowHands}
@@ -34,12 +35,15 @@ use Rattle.rb_shared_ring.proofs.ChapterPassing.{held-in, seen-in}
 use Rattle.rb_shared_ring.proofs.WorkerPassing.{LeavesWorker}
 
 -- what a call does, from the ring that it was given to the one that it left
-pub called-in-hands : (Call : HandRing → HandRing → Type 0) (shown old left new : HandRing) → shown ≡ old → left ≡ new → Call shown left → Call old new
-called-in-hands Call shown old left new is_old is_new call = subst (λ r. Call r new) is_old (subst (Call shown) is_new call)
+pub called-in-hands : (Call : HandRing → HandRing → Type 0) (shown old left new : TaggedRing) → shown ≡ old → left ≡ new → Call shown.state left.state → Call old.state new.state
+called-in-hands Call shown old left new is_old is_new call = subst (λ (r : TaggedRing). Call r.state new.state) is_old (subst (λ (r : TaggedRing). Call shown.state r.state) is_new call)
 
 -- the state that was taken out is the one that is lent to a call
 pub took-lent : (v : HandPassView) (lent held : HandRing) (out : HandPassView) → lent ≡ held → TakesHandState v held out → TakesHandState v lent out
 took-lent v lent held out is took = subst (λ r. TakesHandState v r out) (sym is) took
+
+pub took-tagged : (v : HandPassView) (lent held : TaggedRing) (out : HandPassView) → lent ≡ held → TakesHandState v held.state out → TakesHandState v lent.state out
+took-tagged v lent held out is took = took-lent v lent.state held.state out (ap (λ (s : TaggedRing). s.state) is) took
 
 -- ---- a pass with any role
 

@@ -20,7 +20,7 @@ use crate::lock::{Lock, RingPass};
 use crate::locked_calls::with_state;
 use crate::shared::{Foreign, SharedRing};
 use crate::worker_seat::Seat;
-use rb_chapter_ring::HandState;
+use rb_chapter_ring::RingState;
 use rb_history::{Counts, Tally};
 use std::sync::Wait;
 
@@ -38,9 +38,9 @@ pub struct Audit {
 }
 
 // Returns the ring's positions and counts, and the counts of a worker's entries. Takes constant time.
-fn audit_of(state: &HandState, worker: u32) -> Audit
-    requires worker { worker < state.now.ring.chapter.opening.setup.workers }
-    ensures audit { AuditsInChapter worker result state.now.ring state.now.ring }
+fn audit_of(state: &RingState, worker: u32) -> Audit
+    requires worker { worker < state.now.state.ring.chapter.opening.setup.workers }
+    ensures audit { AuditsInChapter worker result state.now.state.ring state.now.state.ring }
 {
     let closing = state.chapter().closing();
     let numbers = closing.numbers();
@@ -85,8 +85,8 @@ fn audit_with<R: Wait>(
         batch,
         pass,
         |state|
-            requires worker { worker < state.old.ring.chapter.opening.setup.workers }
-            ensures call { LeavesHands (AuditsInChapter worker result) state.old state.new }
+            requires worker { worker < state.old.state.ring.chapter.opening.setup.workers }
+            ensures call { LeavesHands (AuditsInChapter worker result) state.old.state state.new.state }
         { audit_of(state, worker) },
     )
 }

@@ -16,7 +16,7 @@ use crate::consumer_seat::ConsumerSeat;
 use crate::lock::{Lock, RingPass};
 use crate::locked_calls::with_state;
 use crate::shared::{Foreign, SharedRing};
-use rb_chapter_ring::{COUNT_LIMIT, Chapter, HandState};
+use rb_chapter_ring::{COUNT_LIMIT, Chapter, RingState};
 use std::sync::Wait;
 use thiserror::Error;
 
@@ -61,18 +61,18 @@ fn hand_out_with<R: Wait>(
         batch,
         pass,
         |state|
-            requires fits { MayGoOnIn state.old.ring empty }
-            ensures hands_out { HandsOut state.old.ring state.new.ring result }
-            ensures same_hands { state.new.hands ≡ state.old.hands }
+            requires fits { MayGoOnIn state.old.state.ring empty }
+            ensures hands_out { HandsOut state.old.state.ring state.new.state.ring result }
+            ensures same_hands { state.new.state.hands ≡ state.old.state.hands }
         { next_chapter(state, empty) },
     )
 }
 
 // Hands out the ring's chapter; the ring continues in the passed one, which must fit.
-fn next_chapter(state: &mut HandState, empty: Chapter) -> Chapter
-    requires fits { MayGoOnIn state.old.ring empty }
-    ensures hands_out { HandsOut state.old.ring state.new.ring result }
-    ensures same_hands { state.new.hands ≡ state.old.hands }
+fn next_chapter(state: &mut RingState, empty: Chapter) -> Chapter
+    requires fits { MayGoOnIn state.old.state.ring empty }
+    ensures hands_out { HandsOut state.old.state.ring state.new.state.ring result }
+    ensures same_hands { state.new.state.hands ≡ state.old.state.hands }
 {
     match state.hand_out(empty) {
         Ok(chapter) => chapter,
@@ -97,7 +97,7 @@ fn used_with<R: Wait>(rt: &R, lock: &Lock, batch: &BatchFlag, pass: &mut RingPas
         batch,
         pass,
         |state|
-            ensures call { LeavesHands (TellsUsed result.0 result.1) state.old state.new }
+            ensures call { LeavesHands (TellsUsed result.0 result.1) state.old.state state.new.state }
         { (state.chapter().used(), state.chapter().owed()) },
     )
 }

@@ -18,7 +18,7 @@ use crate::consumer_seat::ConsumerSeat;
 use crate::lock::{JoinRoles, Lock, RingPass, take_out};
 use crate::shared::SharedRing;
 use crate::worker_seat::Seat;
-use rb_chapter_ring::{Chapter, HandState};
+use rb_chapter_ring::{Chapter, RingState};
 use rb_history::Counts;
 use std::marker::Model;
 use std::sync::Wait;
@@ -28,7 +28,7 @@ use std::sync::Wait;
 #[derive(Drop)]
 pub struct Closing {
     ring: SharedRing,
-    state: Box<HandState>,
+    state: Box<RingState>,
 }
 
 impl Model for Closing {
@@ -44,7 +44,7 @@ impl Model for Closing {
 
     ghost coded = { Prim.hlevel (codes, contents_code, table_id_coded, entry.the_row.coded, tally_row.the_row.coded, out_row.the_row.coded) };
 
-    ghost view = { λ c. record { shared = c.ring; at_end = c.state.value.ring } };
+    ghost view = { λ c. record { shared = c.ring; at_end = c.state.value.state.ring } };
 }
 
 impl Closing {
@@ -156,11 +156,11 @@ fn collect<R: Wait>(
     batch: &BatchFlag,
     seats: Vec<Seat>,
     consumer: ConsumerSeat,
-) -> Box<HandState>
+) -> Box<RingState>
     requires consumer { consumer.ring ≡ lock.now.table.shared.table_id }
     requires seats { All (λ s. s.ring ≡ consumer.ring) seats.items }
     requires all { HasAll consumer.seen.setup.workers seats.items }
-    ensures closed { IsClosedByChapters result.value.ring seats.items consumer }
+    ensures closed { IsClosedByChapters result.value.state.ring seats.items consumer }
     ensures knew { KnewHandedOut consumer.handed_out seats.items }
 {
     let mut pass = consumer.into_pass();

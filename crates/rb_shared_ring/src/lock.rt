@@ -14,7 +14,7 @@ use crate::batch_flag::BatchFlag;
 use crate::wait_backoff::WaitBackoff;
 use crossbeam_queue::protocol::{Join, Lesson, Outcome, Protocol, Split};
 use crossbeam_queue::{Pass, RuledArrayQueue};
-use rb_chapter_ring::HandState;
+use rb_chapter_ring::RingState;
 use std::alloc::{AllocError, Global};
 use std::marker::Model;
 use std::sync::Wait;
@@ -39,11 +39,11 @@ impl Model for PassKnowledge {
     ghost view = { λ k. hand_view [] None };
 }
 
-/// A ring's state while it is in the lock. It is on the heap, so that taking it out and putting it back moves only a
-/// pointer.
+/// A ring of one thread while it is in the lock. It is on the heap, so that taking it out and putting it back moves only
+/// a pointer. Contracts see all of it but its tag.
 #[derive(Drop)]
 pub struct LockedState {
-    ring: Box<HandState>,
+    ring: Box<RingState>,
 }
 
 impl Model for LockedState {
@@ -58,7 +58,7 @@ impl Model for LockedState {
 
     ghost coded = { Prim.hlevel (codes, contents_code, entry.the_row.coded, tally_row.the_row.coded, out_row.the_row.coded) };
 
-    ghost view = { λ r. r.ring.value };
+    ghost view = { λ r. r.ring.value.state };
 }
 
 /// The lock's rule with hands: the invariant that each step of each thread preserves.
@@ -168,11 +168,11 @@ pub(crate) fn take_out<R: Wait>(
     lock: &Lock,
     batch: &BatchFlag,
     pass: &mut RingPass,
-) -> Box<HandState>
+) -> Box<RingState>
     requires pass { IsPassOf lock.now pass.old }
     requires free { (view pass.old).out ≡ None }
     ensures same { IsSamePass pass.old pass.new }
-    ensures took { TakesHandState (view pass.old) result.value (view pass.new) }
+    ensures took { TakesHandState (view pass.old) result.value.state (view pass.new) }
 {
     let mut wait_backoff = WaitBackoff::new();
     let mut has_just_come = true;
@@ -189,11 +189,11 @@ pub(crate) fn take_out<R: Wait>(
 }
 
 /// Puts the state back, after a call with the pass's one role.
-pub(crate) fn put_back<R: Wait>(rt: &R, lock: &Lock, pass: &mut RingPass, state: Box<HandState>)
+pub(crate) fn put_back<R: Wait>(rt: &R, lock: &Lock, pass: &mut RingPass, state: Box<RingState>)
     requires pass { IsPassOf lock.now pass.old × (ruled_capacity lock.now ≡ 1) }
-    requires step { MayPutHands (view pass.old) state.value }
+    requires step { MayPutHands (view pass.old) state.value.state }
     ensures same { IsSamePass pass.old pass.new }
-    ensures put { PutsHandState (view pass.old) state.value (view pass.new) }
+    ensures put { PutsHandState (view pass.old) state.value.state (view pass.new) }
 {
     let resting = LockedState { ring: state };
     if lock.push_as::<PutBack, R>(rt, pass, resting).is_err() {
@@ -202,13 +202,13 @@ pub(crate) fn put_back<R: Wait>(rt: &R, lock: &Lock, pass: &mut RingPass, state:
 }
 
 /// Puts the first state in. From then on the pass has the roles of the consumer and of all workers.
-pub(crate) fn put_first<R: Wait>(rt: &R, lock: &Lock, pass: &mut RingPass, state: Box<HandState>)
+pub(crate) fn put_first<R: Wait>(rt: &R, lock: &Lock, pass: &mut RingPass, state: Box<RingState>)
     requires pass { IsPassOf lock.now pass.old × (ruled_capacity lock.now ≡ 1) }
     requires unopened { view pass.old ≡ hand_view [] (Some unopened_hands) }
-    requires opened { IsChapteredRing (chaptered_ring [] state.value.ring) × (state.value.ring.contents ≡ empty) }
-    requires hands { HasHands state.value × (state.value.hands ≡ free_book state.value.ring.chapter.opening.setup.workers) }
+    requires opened { IsChapteredRing (chaptered_ring [] state.value.state.ring) × (state.value.state.ring.contents ≡ empty) }
+    requires hands { HasHands state.value.state × (state.value.state.hands ≡ free_book state.value.state.ring.chapter.opening.setup.workers) }
     ensures same { IsSamePass pass.old pass.new }
-    ensures put { OpensHandState (view pass.old) state.value (view pass.new) }
+    ensures put { OpensHandState (view pass.old) state.value.state (view pass.new) }
 {
     let resting = LockedState { ring: state };
     if lock.push_as::<PutFirst, R>(rt, pass, resting).is_err() {

@@ -19,21 +19,21 @@ ghost use Rattle.rb_shared_ring.specs.inner.ChapterAnswers.{ReservesInChapter, O
 
 use crate::batch_flag::BatchFlag;
 use crate::lock::{Lock, RingPass, put_back, take_out};
-use rb_chapter_ring::{HandState, RecordEnd, Reservation, ReserveFault};
+use rb_chapter_ring::{RecordEnd, Reservation, ReserveFault, RingState};
 use rb_history::Notice;
 use rb_lend::Sheet;
 use std::sync::Wait;
 
 /// States the invariant of the ring of one thread for the state.
-pub(crate) fn facts_of(state: &HandState)
-    ensures kept { IsKeptHandRing state.now }
+pub(crate) fn facts_of(state: &RingState)
+    ensures kept { IsKeptHandRing state.now.state }
 {
     state.facts();
 }
 
 #[inline(always)]
 /// Takes the state out of the lock, lends it to one call, and puts it back.
-pub(crate) fn with_state<R: Wait, T, F: FnOnce(&mut HandState) -> T>(
+pub(crate) fn with_state<R: Wait, T, F: FnOnce(&mut RingState) -> T>(
     rt: &R,
     lock: &Lock,
     batch: &BatchFlag,
@@ -55,7 +55,7 @@ pub(crate) fn with_state<R: Wait, T, F: FnOnce(&mut HandState) -> T>(
     answer
 }
 
-/// Calls `HandState::query` for the worker of this pass.
+/// Calls `RingState::query` for the worker of this pass.
 pub(crate) fn query_with<R: Wait>(
     rt: &R,
     lock: &Lock,
@@ -81,13 +81,14 @@ pub(crate) fn query_with<R: Wait>(
         batch,
         pass,
         |state|
-            ensures call { LeavesHands (QueriesInChapter what result) state.old state.new }
+            ensures call { LeavesHands (QueriesInChapter what result) state.old.state state.new.state }
         { state.query(what) },
     )
 }
 
 #[inline(always)]
-/// Calls `HandState::reserve` with a free hand of the worker of this pass.
+/// Calls `RingState::reserve` with a free hand of the worker of this pass. It sets the ring's tag first, since the lock's
+/// rule says nothing about the tag.
 ///
 /// It takes the state out of the lock itself, so that it is inlined into each caller: a closure with several callers is
 /// not inlined, and would return the record through memory.
@@ -120,14 +121,15 @@ pub(crate) fn reserve_with<R: Wait>(
 {
     let mut held = take_out(rt, lock, batch, pass);
     let state = held.as_mut();
-    let answer = state.reserve(tag, worker, hand, n, sheet);
+    state.set_tag(tag);
+    let answer = state.reserve(worker, hand, n, sheet);
     facts_of(state);
     put_back(rt, lock, pass, held);
     answer
 }
 
 #[inline(always)]
-/// Calls `HandState::settle` with a reservation that is out in a hand of the worker of this pass. It is never refused.
+/// Calls `RingState::settle` with a reservation that is out in a hand of the worker of this pass. It is never refused.
 /// It takes the state out of the lock itself, as `reserve_with` does.
 pub(crate) fn settle_with<R: Wait>(
     rt: &R,
@@ -161,7 +163,7 @@ pub(crate) fn settle_with<R: Wait>(
 }
 
 #[inline(always)]
-/// Calls `HandState::output` for the worker of this pass. It needs no hand. It takes the state out of the lock itself,
+/// Calls `RingState::output` for the worker of this pass. It needs no hand. It takes the state out of the lock itself,
 /// as `reserve_with` does.
 pub(crate) fn output_with<R: Wait>(
     rt: &R,

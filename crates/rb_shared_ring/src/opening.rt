@@ -12,7 +12,7 @@ use crate::lock::{new_lock, put_first};
 use crate::locked_calls::facts_of;
 use crate::shared::SharedRing;
 use crate::worker_seat::{Seat, new_seat};
-use rb_chapter_ring::{HandState, OpenFault};
+use rb_chapter_ring::{OpenFault, RingState};
 use std::alloc::Global;
 use std::sync::Wait;
 
@@ -39,7 +39,7 @@ pub fn open<R: Wait>(
     ensures workers { IsErrOf result OpenFault.Workers ↔ (IsRingSize size × IsStartPosition start × ¬ IsWorkerCount workers) }
     ensures chapter { IsErrOf result OpenFault.Chapter ↔ (IsRingSize size × IsStartPosition start × IsWorkerCount workers × ¬ IsChapterRoom room) }
 {
-    let state = HandState::new(alloc, size, start, workers, room)?;
+    let state = RingState::new(alloc, tag, size, start, workers, room)?;
     facts_of(&state);
     let Ok((lock, mut pass)) = new_lock(alloc) else {
         return Err(OpenFault::Memory);

@@ -41,7 +41,7 @@ fn take_with<R: Wait>(rt: &R, lock: &Lock, batch: &BatchFlag, pass: &mut RingPas
         batch,
         pass,
         |state|
-            ensures call { LeavesHands (TakesInChapter result) state.old state.new }
+            ensures call { LeavesHands (TakesInChapter result) state.old.state state.new.state }
         { state.take() },
     )
 }

@@ -1,8 +1,11 @@
 -- A record's ordinal: the number of records that its ring had granted before it.
-use Rattle.std.specs.Prelude.{ℕ, ◌≡◌, ◌+◌, ◌<◌, ◌≤◌, List, [], Some, length}
+use Rattle.std.specs.Prelude.{ℕ, ◌≡◌, ◌+◌, ◌-◌, ◌<◌, ◌≤◌, List, [], Some, length}
 use Rattle.std.specs.List.{slice_index_or as get_or}
+use Rattle.rb_history.specs.ReservationModel.{Granted}
+use Rattle.rb_history.specs.inner.RecordRows.{IsBusyAt}
 use Rattle.rb_chapter_ring.specs.Standing.{Standing, record_in}
 use Rattle.rb_chapter_ring.specs.Chapters.{Chapter, closing_of}
+use Rattle.rb_chapter_ring.specs.ChapterRing.{ChapterRing}
 use Rattle.rb_chapter_ring.specs.declared.out_record.OutRecord.{OutRecord}
 use Rattle.rb_chapter_ring.specs.Hands.{hand_at}
 use Rattle.rb_chapter_ring.specs.HandRing.{HandRing, HasHands}
@@ -25,6 +28,11 @@ pub record KeepsOrdinals (old new : Standing) : Type 0 where
 
 abbrev pub KeepsNumbers : Chapter → Chapter → Type 0
 KeepsNumbers old new = KeepsOrdinals (closing_of old) (closing_of new)
+
+-- the reservation's record was not taken, is busy, and has this ordinal
+pub record HasBusyOrdinal (v : ChapterRing) (r : Granted) (n : ℕ) : Type 0 where
+  pub passed : taken_before (closing_of v.chapter) ≤ n
+  pub here : IsBusyAt v.shown (n - taken_before (closing_of v.chapter)) r.pos (length r.bytes)
 
 -- the ordinal that is stored for a worker's hand
 abbrev pub ordinal_at : List (List ℕ) → ℕ → ℕ → ℕ

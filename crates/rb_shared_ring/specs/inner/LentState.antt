@@ -4,6 +4,7 @@ use Rattle.rb_chapter_ring.specs.ChapterRoom.{HasRoomForOwed}
 use Rattle.rb_chapter_ring.specs.ChapterRing.{ChapterRing, StandsForChapter}
 use Rattle.rb_chapter_ring.specs.OpenedRing.{IsChapterRingWithin}
 use Rattle.rb_chapter_ring.specs.HandRing.{HandRing, HasHands}
+use Rattle.rb_chapter_ring.specs.TaggedRing.{TaggedRing}
 use Rattle.rb_ledger.specs.HandKnowledge.{HandPassView}
 use Rattle.rb_ledger.specs.HandLockSteps.{TakesHandState, MayPutHands, PutsHandState}
 
@@ -20,19 +21,19 @@ pub record IsKeptHandRing (v : HandRing) : Type 0 where
   pub hands : HasHands v
 
 -- any state that the pass, as it is before the call, takes out meets the call's precondition
-abbrev pub MayLend : HandPassView → (HandRing → Type 0) → Type 0
-MayLend before Requires = (out : HandPassView) (old : HandRing) → TakesHandState before old out → Requires old
+abbrev pub MayLend : HandPassView → (TaggedRing → Type 0) → Type 0
+MayLend before Requires = (out : HandPassView) (old : TaggedRing) → TakesHandState before old.state out → Requires old
 
 -- a pass in the state `before` may make this call: it may put back what the call left
-abbrev pub MayCall : HandPassView → (HandRing → HandRing → Type 0) → Type 0
-MayCall before Call = (out : HandPassView) (old new : HandRing) → TakesHandState before old out → Call old new → IsKeptHandRing new → MayPutHands out new
+abbrev pub MayCall : HandPassView → (TaggedRing → TaggedRing → Type 0) → Type 0
+MayCall before Call = (out : HandPassView) (old new : TaggedRing) → TakesHandState before old.state out → Call old new → IsKeptHandRing new.state → MayPutHands out new.state
 
 -- the pass took the state out, one call was made on it, and the pass put it back
-pub record LendsState (before after : HandPassView) (Call : HandRing → HandRing → Type 0) : Type 0 where
+pub record LendsState (before after : HandPassView) (Call : TaggedRing → TaggedRing → Type 0) : Type 0 where
   pub out : HandPassView
-  pub old : HandRing
-  pub new : HandRing
-  pub took : TakesHandState before old out
+  pub old : TaggedRing
+  pub new : TaggedRing
+  pub took : TakesHandState before old.state out
   pub called : Call old new
-  pub kept : IsKeptHandRing new
-  pub put : PutsHandState out new after
+  pub kept : IsKeptHandRing new.state
+  pub put : PutsHandState out new.state after

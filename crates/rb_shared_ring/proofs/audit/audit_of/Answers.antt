@@ -7,14 +7,14 @@ use Rattle.rb_shared_ring.proofs.audit.audit_of.Goals as goal
 
 pub tally_in-requires : goal.tally_in-requires
 tally_in-requires c =
-    let v = c.args.state.now.ring.chapter in
+    let v = c.args.state.now.state.ring.chapter in
     let same : c.closing-closing.result.now.opening ≡ closing_of v = c.closing-closing.ensures.closing ∙ ap closing_of c.chapter.ensures.chapter in
     let long = ap length c.tallies.ensures.tallies ∙ ap (λ (o : Standing). length o.tallies) same ∙ totals-long v in
     record { worker = subst (λ n. c.args.worker < n) (sym long) c.requires.worker }
 
 pub returns : goal.returns
 returns c =
-    let v = c.args.state.now.ring.chapter in
+    let v = c.args.state.now.state.ring.chapter in
     let same : c.closing-closing.result.now.opening ≡ closing_of v = c.closing-closing.ensures.closing ∙ ap closing_of c.chapter.ensures.chapter in
     record {
       audit = record {

@@ -1,5 +1,5 @@
 use Rattle.std.proofs.Common.{◌<◌, sym, subst}
-use Rattle.rb_chapter_ring.specs.HandRing.{HandRing}
+use Rattle.rb_chapter_ring.specs.TaggedRing.{TaggedRing}
 use Rattle.rb_shared_ring.specs.inner.ChapterAnswers.{AuditsInChapter}
 use Rattle.rb_shared_ring.specs.inner.HandCalls.{LeavesHands}
 use Rattle.rb_shared_ring.proofs.HandPassing.{called-in-hands, worker-low}
@@ -8,7 +8,7 @@ use Rattle.rb_shared_ring.proofs.audit.audit_with.Goals as goal
 
 pub with_state-requires-clause-callable : goal.with_state-requires-clause-callable
 with_state-requires-clause-callable g c out old took p is =
-    subst (λ (x : HandRing). c.args.worker < x.ring.chapter.opening.setup.workers) (sym is) (worker-low c.args.worker _ _ _ c.requires.idle took)
+    subst (λ (x : TaggedRing). c.args.worker < x.state.ring.chapter.opening.setup.workers) (sym is) (worker-low c.args.worker _ _ _ c.requires.idle took)
 
 pub with_state-requires-clause-step : goal.with_state-requires-clause-step
 with_state-requires-clause-step g c answer out old new took called kept =

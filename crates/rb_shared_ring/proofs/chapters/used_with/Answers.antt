@@ -16,5 +16,5 @@ returns g c =
     let l = c.with_state.ensures.lent in
     let r = c.with_state.result in
     let did = called-in-hands (LeavesHands (TellsUsed r.0 r.1)) _ _ _ _ l.called.shows l.called.leaves l.called.met in
-    let e = leaves-taker _ l.old l.new _ c.requires.idle l.took _ l.put _ _ _ (told-used _ _ _ _ (chapter-idle Consumer _ l.old _ c.requires.idle l.took) l.took.chapters l.kept.kept _ (put-back-chapter _ l.old l.new _ c.requires.idle l.took _ l.put) r.0 r.1 did.0) in
+    let e = leaves-taker _ l.old.state l.new.state _ c.requires.idle l.took _ l.put _ _ _ (told-used _ _ _ _ (chapter-idle Consumer _ l.old.state _ c.requires.idle l.took) l.took.chapters l.kept.kept _ (put-back-chapter _ l.old.state l.new.state _ c.requires.idle l.took _ l.put) r.0 r.1 did.0) in
     record { same = c.with_state.ensures.same; idle = e.idle; call = e.call; bytes = e.bytes; room = e.room; chapters = e.chapters }

@@ -1,23 +1,23 @@
 use Rattle.std.proofs.Common.{rules}
 use Rattle.rb_shared_ring.proofs.AnswersMeet.{meets-output}
-use Rattle.rb_shared_ring.proofs.HandPassing.{worker-low, took-lent}
+use Rattle.rb_shared_ring.proofs.HandPassing.{worker-low, took-tagged}
 use Rattle.rb_shared_ring.proofs.SeatPassing.{put-out, output}
 use Rattle.rb_shared_ring.proofs.locked_calls.output_with.Goals as goal
 
 pub output-answer-requires : goal.output-answer-requires
 output-answer-requires g c =
-    let took = took-lent _ _ _ _ c.as_mut-state.ensures.value c.take_out-held.ensures.took in
+    let took = took-tagged _ _ _ _ c.as_mut-state.ensures.value c.take_out-held.ensures.took in
     record { worker = worker-low c.args.worker _ _ _ c.requires.idle took }
 
 pub put_back-requires-clause-step : goal.put_back-requires-clause-step
 put_back-requires-clause-step g c =
-    let took = took-lent _ _ _ _ c.as_mut-state.ensures.value c.take_out-held.ensures.took in
+    let took = took-tagged _ _ _ _ c.as_mut-state.ensures.value c.take_out-held.ensures.took in
     let e = c.output-answer.ensures in
     put-out c.args.worker _ _ _ _ c.requires.idle took c.facts_of.ensures.kept c.args.sheet c.args.flags c.output-answer.result (meets-output _ _ _ _ _ c.output-answer.result e.granted e.notice e.known_flags e.flags e.refused, e.same_hands)
 
 pub returns : goal.returns
 returns g c =
-    let took = took-lent _ _ _ _ c.as_mut-state.ensures.value c.take_out-held.ensures.took in
+    let took = took-tagged _ _ _ _ c.as_mut-state.ensures.value c.take_out-held.ensures.took in
     let e = c.output-answer.ensures in
     let told = output c.args.worker _ _ _ _ c.requires.idle took c.facts_of.ensures.kept _ c.put_back.ensures.put c.args.sheet c.args.flags c.output-answer.result (meets-output _ _ _ _ _ c.output-answer.result e.granted e.notice e.known_flags e.flags e.refused, e.same_hands) in
     record {

@@ -1,16 +1,16 @@
 use Rattle.std.proofs.Common.{refl}
 use Rattle.std.specs.Fn.{FnOnceReturnsAtMut}
 use Rattle.crossbeam_queue.specs.Passes.{view}
-use Rattle.rb_shared_ring.proofs.HandPassing.{took-lent}
+use Rattle.rb_shared_ring.proofs.HandPassing.{took-tagged}
 use Rattle.rb_shared_ring.proofs.locked_calls.with_state.Goals as goal
 
 pub call-answer-requires : goal.call-answer-requires
 call-answer-requires g c =
-    c.requires.callable (view c.take_out-held.new.pass) c.as_mut-state.result.now (took-lent _ _ _ _ c.as_mut-state.ensures.value c.take_out-held.ensures.took) _ refl
+    c.requires.callable (view c.take_out-held.new.pass) c.as_mut-state.result.now (took-tagged _ _ _ _ c.as_mut-state.ensures.value c.take_out-held.ensures.took) _ refl
 
 pub put_back-requires-clause-step : goal.put_back-requires-clause-step
 put_back-requires-clause-step g c =
-    let took = took-lent _ _ _ _ c.as_mut-state.ensures.value c.take_out-held.ensures.took in
+    let took = took-tagged _ _ _ _ c.as_mut-state.ensures.value c.take_out-held.ensures.took in
     let called : FnOnceReturnsAtMut g.F.FnOnce c.args.call c.as_mut-state.result.now c.call-answer.result c.call-answer.new.arg2 = record { shown = _; shows = refl; left = _; met = c.call-answer.ensures; leaves = refl } in
     c.requires.step c.call-answer.result (view c.take_out-held.new.pass) c.as_mut-state.result.now c.call-answer.new.arg2 took called c.facts_of.ensures.kept
 
@@ -19,7 +19,7 @@ returns-clause-lent g c = record {
   out = view c.take_out-held.new.pass;
   old = c.as_mut-state.result.now;
   new = c.call-answer.new.arg2;
-  took = took-lent _ _ _ _ c.as_mut-state.ensures.value c.take_out-held.ensures.took;
+  took = took-tagged _ _ _ _ c.as_mut-state.ensures.value c.take_out-held.ensures.took;
   called = record { shown = _; shows = refl; left = _; met = c.call-answer.ensures; leaves = refl };
   kept = c.facts_of.ensures.kept;
   put = c.put_back.ensures.put;

@@ -3,6 +3,7 @@ use Rattle.std.specs.FinMap.{empty}
 use Rattle.crossbeam_queue.specs.Passes.{view}
 use Rattle.rb_chapter_ring.specs.Hands.{free_book}
 use Rattle.rb_chapter_ring.specs.HandRing.{HandRing, HasHands}
+use Rattle.rb_chapter_ring.specs.TaggedRing.{TaggedRing}
 use Rattle.rb_ledger.specs.ChapteredRing.{chaptered_ring, IsChapteredRing}
 use Rattle.rb_ledger.specs.Roles.{Book}
 use Rattle.rb_ledger.specs.Seats.{IsBook, fresh_book, fresh_seat, fresh_seats}
@@ -40,18 +41,18 @@ pub new_consumer-consumer-requires-clause-book : goal.new_consumer-consumer-requ
 new_consumer-consumer-requires-clause-book g c =
     let opened = c.in_ok-state.ensures.opened in
     let book = opened-book _ _ _ _ _ (ap (λ (x : HandRing). x.ring) opened) (first-ring _ _ _ (ap (λ (x : HandRing). x.ring) opened) c.facts_of.ensures.kept.kept).0 in
-    let n = next-consumer c.in-Ok-new.state.value c.args.room c.args.size c.args.start c.args.workers (view c.put_first.new.pass) (view c.put_first.new.pass) (ap (λ (x : HandRing). x.ring) (c.in-Ok-new.ensures.ok ∙ opened)) c.put_first.ensures.put in
+    let n = next-consumer c.in-Ok-new.state.value.state c.args.room c.args.size c.args.start c.args.workers (view c.put_first.new.pass) (view c.put_first.new.pass) (ap (λ (x : HandRing). x.ring) (ap (λ (x : TaggedRing). x.state) c.in-Ok-new.ensures.ok ∙ opened)) c.put_first.ensures.put in
     subst IsBook (sym n.seen_is) book
 
 pub put_first-requires-clause-opened : goal.put_first-requires-clause-opened
 put_first-requires-clause-opened g c =
-    subst (λ (x : HandRing). IsChapteredRing (chaptered_ring [] x.ring) × (x.ring.contents ≡ empty)) (sym c.in-Ok-new.ensures.ok) (first-ring _ _ _ (ap (λ (x : HandRing). x.ring) c.in_ok-state.ensures.opened) c.facts_of.ensures.kept.kept)
+    subst (λ (x : TaggedRing). IsChapteredRing (chaptered_ring [] x.state.ring) × (x.state.ring.contents ≡ empty)) (sym c.in-Ok-new.ensures.ok) (first-ring _ _ _ (ap (λ (x : HandRing). x.ring) c.in_ok-state.ensures.opened) c.facts_of.ensures.kept.kept)
 
 pub put_first-requires-clause-hands : goal.put_first-requires-clause-hands
 put_first-requires-clause-hands g c =
     let opened = c.in_ok-state.ensures.opened in
-    let free : c.in_ok-state.state.hands ≡ free_book c.in_ok-state.state.ring.chapter.opening.setup.workers = ap (λ (x : HandRing). x.hands) opened ∙ sym (ap (λ (x : HandRing). free_book x.ring.chapter.opening.setup.workers) opened) in
-    subst (λ (x : HandRing). HasHands x × (x.hands ≡ free_book x.ring.chapter.opening.setup.workers)) (sym c.in-Ok-new.ensures.ok) (c.facts_of.ensures.kept.hands, free)
+    let free : c.in_ok-state.state.state.hands ≡ free_book c.in_ok-state.state.state.ring.chapter.opening.setup.workers = ap (λ (x : HandRing). x.hands) opened ∙ sym (ap (λ (x : HandRing). free_book x.ring.chapter.opening.setup.workers) opened) in
+    subst (λ (x : TaggedRing). HasHands x.state × (x.state.hands ≡ free_book x.state.ring.chapter.opening.setup.workers)) (sym c.in-Ok-new.ensures.ok) (c.facts_of.ensures.kept.hands, free)
 
 pub returns-clause-seats : goal.returns-clause-seats
 returns-clause-seats g c =

@@ -4,6 +4,7 @@ use Rattle.rb_chapter_ring.specs.Standing.{Standing}
 use Rattle.rb_chapter_ring.specs.Chapters.{Chapter}
 use Rattle.rb_chapter_ring.specs.CountedFrom.{HasRoomFrom, grants_from, producer_from}
 use Rattle.rb_chapter_ring.specs.ChapterRoom.{MayGrant, with_entry}
+use Rattle.rb_chapter_ring.specs.inner.ChapterSteps.{GrantsRecord}
 use Rattle.rb_chapter_ring.specs.inner.ChapterBody.{chapter_shown, entries_in, IsBehindTakes}
 use Rattle.rb_chapter_ring.specs.inner.StandingSteps.{next_record}
 use Rattle.rb_chapter_ring.proofs.Logging.{grants-fit, granted, serial-is}
@@ -91,6 +92,11 @@ returns c =
     let closing = c.self.inside.closing.opening in
     let w = c.args.worker in
     let low = subst (λ (x : Chapter). w < x.opening.setup.workers) (sym c.self.view_is) c.requires.worker in
+    let fits = subst (λ (x : Chapter). HasRoomFrom x.opening x.entries c.args.len) (sym c.self.view_is) c.requires.room in
+    let room = subst MayGrant (sym c.self.view_is) c.requires.chapter_room in
+    let pos = c.numbers-pos.ensures.producer ∙ ap (λ (o : Standing). o.producer) was.closing_is in
     let serial = c.add_grant-serial.ensures.serial ∙ serial-is was.earlier old was.kept closing was.closing_is w low in
-    let logged = ap (λ es. record old { entries = es }) (logs-grant c.self.inside.opening.opening c.self.inside.words.items c.log.new.words.items c.grant_word.result w (c.add_grant-serial.result - c.made.result) c.args.len (grants_from old.opening w old.entries) c.log.ensures.logged c.grant_word.ensures.word (omega (arith, serial, c.made.ensures.made))) in
-    record { logged = logged ∙ ap (λ (x : Chapter). with_entry x (Res w (grants_from x.opening w x.entries) c.args.len (producer_from x.opening x.entries))) c.self.view_is }
+    let new : Chapter = record { number = c.self.inside.number; room = c.self.inside.room; opening = c.self.inside.opening.opening; entries = entries_in c.self.inside.opening.opening c.log.new.words.items } in
+    let logged : new ≡ with_entry old (Res w (grants_from old.opening w old.entries) c.args.len (producer_from old.opening old.entries)) =
+    ap (λ es. record old { entries = es }) (logs-grant c.self.inside.opening.opening c.self.inside.words.items c.log.new.words.items c.grant_word.result w (c.add_grant-serial.result - c.made.result) c.args.len (grants_from old.opening w old.entries) c.log.ensures.logged c.grant_word.ensures.word (omega (arith, serial, c.made.ensures.made))) in
+    record { granted = subst (λ x. GrantsRecord x new w c.args.len c.numbers-pos.result.producer c.add_grant-serial.result) c.self.view_is (record { room = fits; chapter_room = room; position = pos; serial = serial; logged = logged }) }

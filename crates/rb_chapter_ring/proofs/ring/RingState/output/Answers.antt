@@ -1,9 +1,90 @@
-use Rattle.std.proofs.Common.{◌≡◌, ◌↔◌, subst, IfOk}
+use Rattle.std.proofs.Common.{◌≡◌, ◌+◌, ◌%◌, ◌<◌, ◌↔◌, length, refl, sym, ap, ◌∙◌, subst, arith}
 use Rattle.rb_history.specs.declared.answers.Notice.TheVariants.{Due}
 use Rattle.rb_history.specs.NoticesAndQueries.{IsDue}
-use Rattle.rb_chapter_ring.specs.ChapterCalls.{consumer_by_chapter, producer_by_chapter}
+use Rattle.rb_chapter_ring.specs.Standing.{Standing}
+use Rattle.rb_chapter_ring.specs.Chapters.{closing_of}
+use Rattle.rb_chapter_ring.specs.ChapterCalls.{OutputsByChapter, consumer_by_chapter, producer_by_chapter}
+use Rattle.rb_chapter_ring.specs.HandRing.{hand_ring}
+use Rattle.rb_chapter_ring.specs.RingFaults.{RefusesInChapter}
 use Rattle.rb_chapter_ring.specs.TaggedRing.{TaggedRing}
+use Rattle.rb_chapter_ring.specs.inner.ChapterSteps.{GrantsRecord, RefusesRecord}
+use Rattle.rb_chapter_ring.specs.inner.Ordinals.{taken_before}
+use Rattle.rb_chapter_ring.specs.inner.RingBody.{parts_of, ring_in}
+use Rattle.rb_chapter_ring.proofs.RingSteps.{RefusesParts, OutputsParts, after_request, after_end, refuses, granted-is-busy, outputs}
+use Rattle.rb_chapter_ring.proofs.StateSteps.{refused-holds, output-holds}
 use Rattle.rb_chapter_ring.proofs.ring.RingState.output.Goals as goal
+use Rattle.rb_chapter_ring.proofs.ring.RingState.output.Goals.{After-count_fault, After-notice_for}
 
-pub returns-clause-notice : goal.returns-clause-notice
-returns-clause-notice c = subst (λ (s : TaggedRing). IfOk c.output.result (λ n. (n ≡ Due) ↔ IsDue (consumer_by_chapter s.state.ring) (producer_by_chapter s.state.ring) c.args.flags)) c.self.view_is c.output.ensures.notice
+refused : (c : After-count_fault) → RefusesParts (parts_of c.self.inside) (after_request (parts_of c.self.inside) c.grant.new.self c.count_fault.new.refused) c.args.worker (length c.args.sheet) c.in-Err.fault
+refused c =
+    let p = parts_of c.self.inside in
+    let low = subst (λ (s : TaggedRing). c.args.worker < s.state.ring.chapter.opening.setup.workers) (sym c.self.view_is) c.requires.worker in
+    let is = subst (λ n. RefusesRecord p.chapter c.grant.new.self c.args.worker n c.in-Err.fault) c.len-2.ensures c.in-Err.ensures.refused in
+    refuses p c.self.invariant.parts c.args.worker (length c.args.sheet) low c.grant.new.self c.count_fault.new.refused c.in-Err.fault is c.count_fault.ensures.counted
+
+pub invariant_of-self : goal.invariant_of-self
+invariant_of-self c =
+    let a = c.self.inside in
+    let p = parts_of a in
+    let q = after_request p c.grant.new.self c.count_fault.new.refused in
+    let i = c.self.invariant in
+    let done = refused c in
+    let low = subst (λ (s : TaggedRing). c.args.worker < s.state.ring.chapter.opening.setup.workers) (sym c.self.view_is) c.requires.worker in
+    record {
+      parts = done.keeps.parts;
+      hands = refused-holds i.parts.earlier (hand_ring (ring_in p) a.hands.items) (hand_ring (ring_in q) a.hands.items) a.ordinals.items i.parts.ring.kept i.hands done.keeps.numbers c.args.worker (length c.args.sheet) low c.in-Err.fault done.refused refl;
+    }
+
+pub returns-in-Err-clause-refused : goal.returns-in-Err-clause-refused
+returns-in-Err-clause-refused c =
+    let q = after_request (parts_of c.self.inside) c.grant.new.self c.count_fault.new.refused in
+    subst (λ (s : TaggedRing). RefusesInChapter s.state.ring (ring_in q) c.args.worker (length c.args.sheet) c.in-Err.fault) c.self.view_is (refused c).refused
+
+pub log_end-requires : goal.log_end-requires
+log_end-requires c =
+    let p = parts_of c.self.inside in
+    let low = subst (λ (s : TaggedRing). c.args.worker < s.state.ring.chapter.opening.setup.workers) (sym c.self.view_is) c.requires.worker in
+    let is = subst (λ n. GrantsRecord p.chapter c.grant.new.self c.args.worker n c.in-Ok.pos c.in-Ok.field-0-1) c.len-2.ensures c.in-Ok.ensures.granted in
+    let index = c.many-index.ensures.many ∙ ap (λ (s : TaggedRing). length s.state.ring.shown) (sym c.self.view_is) in
+    record { busy = granted-is-busy p c.self.invariant.parts c.args.worker c.args.sheet low c.grant.new.self c.in-Ok.pos c.in-Ok.field-0-1 is c.many-index.result index }
+
+output : (c : After-notice_for) → OutputsParts (parts_of c.self.inside) (after_end (parts_of c.self.inside) c.log_end.new.self c.keep_bytes.new.sheets.items c.self.inside.discarded) c.args.worker c.args.sheet
+output c =
+    let a = c.self.inside in
+    let p = parts_of a in
+    let i = c.self.invariant.parts in
+    let low = subst (λ (s : TaggedRing). c.args.worker < s.state.ring.chapter.opening.setup.workers) (sym c.self.view_is) c.requires.worker in
+    let is = subst (λ n. GrantsRecord p.chapter c.grant.new.self c.args.worker n c.in-Ok.pos c.in-Ok.field-0-1) c.len-2.ensures c.in-Ok.ensures.granted in
+    let index = c.many-index.ensures.many ∙ ap (λ (s : TaggedRing). length s.state.ring.shown) (sym c.self.view_is) in
+    let long : c.many-index.result ≡ length (closing_of p.chapter).records = index ∙ ap length i.ring.stands.shown in
+    let next = c.next_ordinal.ensures.ordinal ∙ ap (λ (s : TaggedRing). taken_before (closing_of s.state.ring.chapter) + length (closing_of s.state.ring.chapter).records) (sym c.self.view_is) ∙ ap (λ n. taken_before (closing_of p.chapter) + n) (sym long) in
+    let many = c.len.ensures ∙ a.sheets.ok.0 in
+    let slot = c.slot_in-slot.ensures.value ∙ (λ j. next j % many j) in
+    outputs p i c.args.worker c.args.sheet low c.grant.new.self c.in-Ok.pos c.in-Ok.field-0-1 is c.many-index.result index c.slot_in-slot.result slot (omega (arith, c.slot_in-slot.ensures.within, many))
+    c.log_end.new.self c.log_end.ensures.logged c.keep_bytes.new.sheets.items c.keep_bytes.ensures.kept
+
+pub invariant_of-self-in-Ok : goal.invariant_of-self-in-Ok
+invariant_of-self-in-Ok c =
+    let a = c.self.inside in
+    let p = parts_of a in
+    let q = after_end p c.log_end.new.self c.keep_bytes.new.sheets.items a.discarded in
+    let i = c.self.invariant in
+    let done = output c in
+    let low = subst (λ (s : TaggedRing). c.args.worker < s.state.ring.chapter.opening.setup.workers) (sym c.self.view_is) c.requires.worker in
+    record {
+      parts = done.keeps.parts;
+      hands = output-holds i.parts.earlier (hand_ring (ring_in p) a.hands.items) (hand_ring (ring_in q) a.hands.items) a.ordinals.items i.parts.ring.kept i.hands done.keeps.numbers c.args.worker c.args.sheet low done.outputs refl;
+    }
+
+pub returns-in-Ok-clause-granted : goal.returns-in-Ok-clause-granted
+returns-in-Ok-clause-granted c =
+    let q = after_end (parts_of c.self.inside) c.log_end.new.self c.keep_bytes.new.sheets.items c.self.inside.discarded in
+    subst (λ (s : TaggedRing). OutputsByChapter s.state.ring (ring_in q) c.args.worker c.args.sheet) c.self.view_is (output c).outputs
+
+pub returns-in-Ok-clause-notice : goal.returns-in-Ok-clause-notice
+returns-in-Ok-clause-notice c =
+    let v = c.self.view_is in
+    let consumer = c.numbers-consumer.ensures.consumer ∙ ap (λ (o : Standing). o.consumer) c.closing.ensures.closing ∙ ap (λ (s : TaggedRing). consumer_by_chapter s.state.ring) v in
+    let producer = c.in-Ok.ensures.granted.position ∙ ap (λ (s : TaggedRing). producer_by_chapter s.state.ring) v in
+    subst (λ p. (c.notice_for.result ≡ Due) ↔ IsDue (consumer_by_chapter c.args.self.now.state.ring) p c.args.flags) producer
+    (subst (λ n. (c.notice_for.result ≡ Due) ↔ IsDue n c.in-Ok.pos c.args.flags) consumer c.notice_for.ensures.due)

@@ -1,9 +1,0 @@
-use Rattle.std.proofs.Common.{◌≡◌, ◌↔◌, subst}
-use Rattle.rb_history.specs.declared.answers.Notice.TheVariants.{Due}
-use Rattle.rb_history.specs.NoticesAndQueries.{IsDue}
-use Rattle.rb_chapter_ring.specs.ChapterCalls.{consumer_by_chapter}
-use Rattle.rb_chapter_ring.specs.TaggedRing.{TaggedRing}
-use Rattle.rb_chapter_ring.proofs.ring.RingState.discard.Goals as goal
-
-pub returns-clause-notice : goal.returns-clause-notice
-returns-clause-notice c = subst (λ (s : TaggedRing). (c.settle.result ≡ Due) ↔ IsDue (consumer_by_chapter s.state.ring) c.args.reservation.granted.pos c.args.flags) c.self.view_is c.settle.ensures.notice

@@ -1,0 +1,82 @@
+//! The commit of a record, which is its submit or its discard.
+
+ghost use Rattle.std.specs.Prelude.{◌≡◌, ◌↔◌};
+ghost use Rattle.rb_history.specs.declared.answers.Notice.TheVariants.{Due};
+ghost use Rattle.rb_history.specs.NoticesAndQueries.{IsDue};
+ghost use Rattle.rb_chapter_ring.specs.ChapterCalls.{IsSameChapter, consumer_by_chapter};
+ghost use Rattle.rb_chapter_ring.specs.RecordEnds.{EndsFromHand};
+ghost use Rattle.rb_chapter_ring.specs.HandRing.{HasInHand, SubmitsFromHand, DiscardsFromHand};
+ghost use Rattle.rb_chapter_ring.specs.inner.Ordinals.{HasBusyOrdinal};
+
+use crate::counting::count_discard;
+use crate::finding::{keep_bytes, slot_in};
+use crate::hand_table::set_hand;
+use crate::{RecordEnd, Reservation, RingState};
+use rb_history::{Notice, notice_for};
+
+impl RingState {
+    #[inline(always)]
+    /// Submits the reservation's record, so that the consumer can take it with its bytes, and frees its hand. The
+    /// record is in that hand, so it is busy and never refused. (bpf-helpers(7), bpf_ringbuf_submit.)
+    ///
+    /// Only bits 0 and 1 of the flags are used. Takes constant time and does not allocate.
+    pub fn submit(&mut self, reservation: Reservation, flags: u64) -> Notice
+        requires out { HasInHand self.old.state reservation.hand reservation.granted }
+        ensures same_tag { self.new.tag ≡ self.old.tag }
+        ensures same_chapter { IsSameChapter self.old.state.ring self.new.state.ring }
+        ensures submitted { SubmitsFromHand self.old.state self.new.state reservation.hand reservation.granted }
+        ensures notice { (result ≡ Due) ↔ IsDue (consumer_by_chapter self.old.state.ring) reservation.granted.pos flags }
+    {
+        self.settle(reservation, RecordEnd::Submit, flags)
+    }
+
+    #[inline(always)]
+    /// Discards the reservation's record, so that the consumer skips it, and frees its hand. The record is in that
+    /// hand, so it is busy and never refused. (bpf-helpers(7), bpf_ringbuf_discard.)
+    ///
+    /// Only bits 0 and 1 of the flags are used. Takes constant time and does not allocate.
+    pub fn discard(&mut self, reservation: Reservation, flags: u64) -> Notice
+        requires out { HasInHand self.old.state reservation.hand reservation.granted }
+        ensures same_tag { self.new.tag ≡ self.old.tag }
+        ensures same_chapter { IsSameChapter self.old.state.ring self.new.state.ring }
+        ensures discarded { DiscardsFromHand self.old.state self.new.state reservation.hand reservation.granted }
+        ensures notice { (result ≡ Due) ↔ IsDue (consumer_by_chapter self.old.state.ring) reservation.granted.pos flags }
+    {
+        self.settle(reservation, RecordEnd::Discard, flags)
+    }
+
+    #[inline(always)]
+    /// Submits or discards the reservation's record, as `end` says, and frees its hand. The record is in that hand, so
+    /// it is busy and never refused. (Linux kernel/bpf/ringbuf.c, bpf_ringbuf_commit.)
+    ///
+    /// Only bits 0 and 1 of the flags are used. Takes constant time and does not allocate.
+    pub fn settle(&mut self, reservation: Reservation, end: RecordEnd, flags: u64) -> Notice
+        requires out { HasInHand self.old.state reservation.hand reservation.granted }
+        ensures same_tag { self.new.tag ≡ self.old.tag }
+        ensures same_chapter { IsSameChapter self.old.state.ring self.new.state.ring }
+        ensures ended { EndsFromHand end reservation.hand reservation.granted self.old.state self.new.state }
+        ensures notice { (result ≡ Due) ↔ IsDue (consumer_by_chapter self.old.state.ring) reservation.granted.pos flags }
+    {
+        let pos = reservation.pos();
+        let worker = reservation.worker();
+        let hand = reservation.hand();
+        let notice = notice_for(self.chapter.closing().numbers().consumer, pos, flags);
+        let ordinal = self.ordinal_of(&reservation);
+        let index = (ordinal - self.taken()) as usize;
+        let slot = slot_in(self.sheets.len(), ordinal);
+        keep_bytes(&mut self.sheets, slot, reservation.into_sheet(), end);
+        count_discard(&mut self.discarded, end);
+        self.chapter.log_end(index, end);
+        set_hand(&mut self.hands, worker, hand, None);
+        notice
+    }
+
+    #[inline(always)]
+    // Returns the ordinal of the reservation's record, which is in its hand.
+    fn ordinal_of(&self, reservation: &Reservation) -> u64
+        requires out { HasInHand self.now.state reservation.now.hand reservation.now.granted }
+        ensures ordinal { HasBusyOrdinal self.now.state.ring reservation.now.granted result }
+    {
+        self.ordinals[reservation.worker() as usize][reservation.hand() as usize]
+    }
+}
