@@ -3,12 +3,11 @@
 ghost use Rattle.std.specs.Prelude.{ℕ, ◌≡◌, ◌/◌, ◌<◌, ◌≤◌, ◌^◌, ◌↔◌, IsErrOf, IsTrue, IfOk, OnOk, length, slice_index_or};
 ghost use Rattle.std.specs.Int.{IsPowerOfTwo};
 ghost use Rattle.rb_history.specs.RingModel.{IsRingSize, IsStartPosition, IsWorkerCount};
-ghost use Rattle.rb_chapter_ring.specs.Standing.{no_tally};
 ghost use Rattle.rb_chapter_ring.specs.Chapters.{IsChapterRoom};
 
 use crate::chapter::{COUNT_LIMIT, Chapter};
 use crate::faults::OpenFault;
-use rb_history::{Tally, is_size, is_start, is_worker_count};
+use rb_history::{is_size, is_start, is_worker_count};
 use rb_lend::Sheet;
 use std::alloc::{AllocError, Global};
 
@@ -70,12 +69,4 @@ pub(crate) fn is_fit(chapter: &Chapter, empty: &Chapter) -> bool
         && empty.room() == chapter.room()
         && empty.opening().numbers().workers == chapter.opening().numbers().workers
         && chapter.number() < COUNT_LIMIT
-}
-
-/// Returns the number of records that were granted to a worker.
-pub(crate) fn made_by(tallies: &[Tally], worker: u32) -> u64
-    requires worker { worker < length tallies.now }
-    ensures made { result ≡ (slice_index_or tallies.now worker no_tally).made }
-{
-    tallies[worker as usize].made
 }

@@ -2,13 +2,11 @@ use Rattle.std.proofs.Common.{◌≡◌, ◌+◌, ◌%◌, ◌<◌, ◌^◌, ◌
 use Rattle.rb_history.specs.declared.answers.Notice.TheVariants.{Due}
 use Rattle.rb_history.specs.NoticesAndQueries.{IsDue}
 use Rattle.rb_chapter_ring.specs.Standing.{Standing}
-use Rattle.rb_chapter_ring.specs.Chapters.{closing_of}
 use Rattle.rb_chapter_ring.specs.ChapterCalls.{OutputsByChapter, consumer_by_chapter, producer_by_chapter}
 use Rattle.rb_chapter_ring.specs.HandRing.{hand_ring}
 use Rattle.rb_chapter_ring.specs.RingFaults.{RefusesInChapter}
 use Rattle.rb_chapter_ring.specs.TaggedRing.{TaggedRing}
 use Rattle.rb_chapter_ring.specs.inner.ChapterSteps.{GrantsRecord, RefusesRecord}
-use Rattle.rb_chapter_ring.specs.inner.Ordinals.{taken_before}
 use Rattle.rb_chapter_ring.specs.inner.RingBody.{parts_of, ring_in}
 use Rattle.rb_chapter_ring.proofs.RingSteps.{RefusesParts, OutputsParts, after_request, after_end, refuses, granted-is-busy, granted-ordinal, outputs}
 use Rattle.rb_chapter_ring.proofs.StateSteps.{refused-holds, output-holds}
