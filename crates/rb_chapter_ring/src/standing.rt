@@ -11,10 +11,8 @@ ghost use Rattle.rb_chapter_ring.specs.inner.StandingSteps.{with_refusal, with_g
 mod numbers;
 
 use crate::record_end::RecordEnd;
-use crate::setup::made_by;
 use crate::standing_lists::{
-    are_same_records, are_same_tallies, copy, count_end, count_made, count_refused, forget,
-    front_of, set_end, tally_of,
+    are_same_records, are_same_tallies, count_end, count_made, front_of, set_end,
 };
 pub use numbers::StandingNumbers;
 use rb_history::{Tally, span};
@@ -98,7 +96,7 @@ impl Standing {
         self.numbers = StandingNumbers::of_ring(size, start, self.numbers.workers);
         self.records.clear();
         self.first = 0;
-        forget(self.tallies.as_mut_slice());
+        self.tallies.as_mut_slice().fill(Tally::none());
     }
 
     // Copies the contents of another opening. Does not allocate.
@@ -113,7 +111,8 @@ impl Standing {
         self.records.clear();
         self.first = 0;
         let _within = self.records.extend_from_slice(other.records());
-        copy(self.tallies.as_mut_slice(), other.tallies.as_slice());
+        let tallies = self.tallies.as_mut_slice();
+        tallies.copy_from_slice(other.tallies.as_slice());
     }
 
     // Returns a copy, with room for at least `room` records.
@@ -142,7 +141,7 @@ impl Standing {
         ensures room { self.new.room ≡ self.old.room }
         ensures passed { self.new.passed ≡ self.old.passed }
     {
-        count_refused(self.tallies.as_mut_slice(), worker);
+        self.tallies[worker as usize].refused += 1;
     }
 
     // Adds the record of `len` bytes that the worker is granted next, and returns its serial.
@@ -208,7 +207,7 @@ impl Standing {
         requires worker { worker < self.now.opening.setup.workers }
         ensures made { result ≡ (tally_at self.now.opening worker).made }
     {
-        made_by(self.tallies.as_slice(), worker)
+        self.tallies[worker as usize].made
     }
 
     // Returns the worker's totals.
@@ -216,7 +215,7 @@ impl Standing {
         requires worker { worker < self.now.opening.setup.workers }
         ensures tally { result ≡ tally_at self.now.opening worker }
     {
-        tally_of(self.tallies.as_slice(), worker)
+        self.tallies[worker as usize]
     }
 
     // Returns whether both have the same contents. Takes time linear in the numbers of records and of workers.
