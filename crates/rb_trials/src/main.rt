@@ -8,6 +8,7 @@
 
 mod bench;
 mod fault;
+mod fields;
 mod listing;
 mod loading;
 mod numbers;
