@@ -8,16 +8,12 @@ from typing import Any, Protocol
 
 
 class Command(Protocol):
-    """A module that is a command: its documentation is the help, and its last sentence says what the status means."""
+    """A module that is a command: its documentation is the help, and says what the status means."""
 
-    __doc__: str | None
-
-    @staticmethod
-    def add_arguments(parser: argparse.ArgumentParser) -> None:
+    def add_arguments(self, parser: argparse.ArgumentParser) -> None:
         """Adds the arguments and options of the command."""
 
-    @staticmethod
-    def run(asked: argparse.Namespace) -> int:
+    def run(self, asked: argparse.Namespace) -> int:
         """Runs the command, and returns its status."""
 
 

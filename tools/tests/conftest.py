@@ -13,9 +13,15 @@ def pytest_addoption(parser: pytest.Parser) -> None:
     """Adds the options of all tests."""
     group = parser.getgroup("heskavo")
     group.addoption("--program", metavar="PROGRAM", help="a built rbhost (default: the one that tools/rbhost runs)")
-    group.addoption("--library", metavar="LIBRARY", type=Path, help="a libheskavo.a (default: the proved one, or one without proof)")
-    group.addoption("--seconds", metavar="N", type=int, default=5, help="how long the long trials of the service run (5)")
-    group.addoption("--runs", metavar="N", type=int, default=20_000, help="how often the agent over Linux runs its program (20,000)")
+    group.addoption(
+        "--library", metavar="LIBRARY", type=Path, help="a libheskavo.a (default: the proved one, or one without proof)"
+    )
+    group.addoption(
+        "--seconds", metavar="N", type=int, default=5, help="how long the long trials of the service run (5)"
+    )
+    group.addoption(
+        "--runs", metavar="N", type=int, default=20_000, help="how often the agent over Linux runs its program (20,000)"
+    )
     group.addoption("--long", action="store_true", help="also run the command blocks that take long")
     group.addoption("--clone", action="store_true", help="run the command blocks in a fresh clone of what is committed")
 

@@ -17,17 +17,42 @@ def output_program(ring: int, length: int, above: int | None = None) -> str:
     units = []
     if above is not None:
         # r2 = *(u8 *)(r1 + 0); if r2 > above goto +2; r0 = 1; exit
-        units += ["7112000000000000", f"25020200{struct.pack('<i', above).hex()}", "b700000001000000", "9500000000000000"]
-    units += ["bf12000000000000", f"18510000{struct.pack('<i', ring).hex()}", "0000000000000000", f"b7030000{struct.pack('<i', length).hex()}",
-              "b704000000000000", "8500000082000000", "9500000000000000"]
+        units += [
+            "7112000000000000",
+            f"25020200{struct.pack('<i', above).hex()}",
+            "b700000001000000",
+            "9500000000000000",
+        ]
+    units += [
+        "bf12000000000000",
+        f"18510000{struct.pack('<i', ring).hex()}",
+        "0000000000000000",
+        f"b7030000{struct.pack('<i', length).hex()}",
+        "b704000000000000",
+        "8500000082000000",
+        "9500000000000000",
+    ]
     return " ".join(units)
 
 
 def discard_program(ring: int, length: int) -> str:
     """Returns the hex of a program that reserves a record in a ring and discards it."""
     # r1 = ring; r2 = length; r3 = 0; reserve; if r0 == 0 goto +3; r1 = r0; r2 = 0; discard; r0 = 0; exit
-    return " ".join([f"18510000{struct.pack('<i', ring).hex()}", "0000000000000000", f"b7020000{struct.pack('<i', length).hex()}", "b703000000000000", "8500000083000000",
-                     "1500030000000000", "bf01000000000000", "b702000000000000", "8500000085000000", "b700000000000000", "9500000000000000"])
+    return " ".join(
+        [
+            f"18510000{struct.pack('<i', ring).hex()}",
+            "0000000000000000",
+            f"b7020000{struct.pack('<i', length).hex()}",
+            "b703000000000000",
+            "8500000083000000",
+            "1500030000000000",
+            "bf01000000000000",
+            "b702000000000000",
+            "8500000085000000",
+            "b700000000000000",
+            "9500000000000000",
+        ]
+    )
 
 
 def frame(context: bytes) -> bytes:
@@ -42,7 +67,7 @@ def records(tape: bytes) -> list[bytes]:
         (length,) = struct.unpack_from("<I", tape, at)
         size = length & 0x3FFFFFFF
         if not length >> 30:
-            found.append(tape[at + 8:at + 8 + size])
+            found.append(tape[at + 8 : at + 8 + size])
         at += 8 + (size + 7) // 8 * 8
     return found
 
@@ -105,6 +130,12 @@ def printed(host: Host, size: int, found: list[tuple[int, bytes]]) -> str:
     """Returns what `tape` prints of segments, each by itself."""
     lines = []
     for position, tape in found:
-        ended = subprocess.run([host.program, "tape", "--size", str(size), "--start", str(position)], input=tape, capture_output=True, timeout=SECONDS, check=False)
+        ended = subprocess.run(
+            [host.program, "tape", "--size", str(size), "--start", str(position)],
+            input=tape,
+            capture_output=True,
+            timeout=SECONDS,
+            check=False,
+        )
         lines.append(ended.stdout.decode() if ended.returncode == 0 else f"segment {position}: {ended.stderr.decode()}")
     return "".join(lines)

@@ -67,7 +67,9 @@ def compile_agents(folder: Path, library: Path) -> dict[str, list[str]]:
             agents["calls, valgrind"] = valgrind + agents["calls"]
     if shutil.which("cargo"):
         settings = {**os.environ, "HESKAVO_LIB": str(library.parent), "CARGO_TARGET_DIR": str(folder / "rust")}
-        subprocess.run(["cargo", "build", "--offline", "--release", "--quiet"], cwd=EMBED / "rust", env=settings, check=True)
+        subprocess.run(
+            ["cargo", "build", "--offline", "--release", "--quiet"], cwd=EMBED / "rust", env=settings, check=True
+        )
         agents["Rust"] = [str(folder / "rust" / "release" / "agent")]
     if shutil.which("go"):
         words = ["go", "build", "-o", str(folder / "go"), "."]
@@ -90,7 +92,9 @@ def compile_c(folder: Path, library: Path, source: str, how: Sequence[str] = ())
     return built
 
 
-def outputs(agents: dict[str, list[str]], rbhost: str, folder: Path, drawn: tuple[int, bytes, bytes]) -> Iterator[tuple[str, Output, tuple[int, str]]]:
+def outputs(
+    agents: dict[str, list[str]], rbhost: str, folder: Path, drawn: tuple[int, bytes, bytes]
+) -> Iterator[tuple[str, Output, tuple[int, str]]]:
     """Yields what each agent printed of a drawn program and tape, and what it has to print, with the agent's name."""
     number, code, tape = drawn
     program, text = folder / f"program_{number}", code.hex().encode()
@@ -121,7 +125,9 @@ def agents(libheskavo: Path, tmp_path_factory: pytest.TempPathFactory) -> dict[s
 
 
 @pytest.fixture(scope="module")
-def differences(agents: dict[str, list[str]], rbhost: str, tmp_path_factory: pytest.TempPathFactory) -> dict[str, list[str]]:
+def differences(
+    agents: dict[str, list[str]], rbhost: str, tmp_path_factory: pytest.TempPathFactory
+) -> dict[str, list[str]]:
     """The outputs of each agent that differ from the expected ones."""
     folder, draw = tmp_path_factory.mktemp("drawn"), random.Random(42)
     (folder / "good").write_bytes(bytes.fromhex("".join(SOURCES[0].read_text().split())))
@@ -136,8 +142,12 @@ def differences(agents: dict[str, list[str]], rbhost: str, tmp_path_factory: pyt
     return wrong
 
 
-@pytest.mark.parametrize("name", ["C", "C, sanitized", "C, valgrind", "calls", "calls, sanitized", "calls, valgrind", "Rust", "Go"])
-def test_agents_print_what_rbhost_prints(agents: dict[str, list[str]], differences: dict[str, list[str]], name: str) -> None:
+@pytest.mark.parametrize(
+    "name", ["C", "C, sanitized", "C, valgrind", "calls", "calls, sanitized", "calls, valgrind", "Rust", "Go"]
+)
+def test_agents_print_what_rbhost_prints(
+    agents: dict[str, list[str]], differences: dict[str, list[str]], name: str
+) -> None:
     if name not in agents:
         pytest.skip(f"there is no compiler, or no valgrind, for {name}")
     assert not differences[name], f"{len(differences[name])} differ, the first: {differences[name][0]}"
@@ -153,7 +163,9 @@ def scripts(rbhost: str) -> tuple[list[engine_scripts.Script], list[list[str]]]:
 
 @with_gcc
 @pytest.mark.parametrize(("how", "place"), [((), "end"), ((), "front"), (SANITIZED, "end")])
-def test_engines_do_what_sim_does(libheskavo: Path, scripts: tuple[list, list], tmp_path: Path, how: tuple[str, ...], place: str) -> None:
+def test_engines_do_what_sim_does(
+    libheskavo: Path, scripts: tuple[list, list], tmp_path: Path, how: tuple[str, ...], place: str
+) -> None:
     agent = [compile_c(tmp_path, libheskavo, "engines", how), place]
     assert not (found := engine_scripts.differences(agent, *scripts, random.Random(42))), found[0]
 
@@ -175,13 +187,22 @@ def test_threads_share_an_engine(libheskavo: Path, tmp_path: Path, how: tuple[st
     assert run([built, str(RECORDS)])[:2] == (0, f"made {made} consumed {made} discarded 0 waiting 0 busy 0\n")
 
 
-@pytest.mark.parametrize("command", ["cargo test --offline --quiet", "gofmt -l .", "go vet ./...", "go test ./...", "go test -race ./..."])
+@pytest.mark.parametrize(
+    "command", ["cargo test --offline --quiet", "gofmt -l .", "go vet ./...", "go test ./...", "go test -race ./..."]
+)
 def test_bindings(libheskavo: Path, tmp_path: Path, command: str) -> None:
     if shutil.which(command.split()[0]) is None:
         pytest.skip(f"there is no {command.split()[0]}")
     is_rust = command.startswith("cargo")
     cargo = {**os.environ, "HESKAVO_LIB": str(libheskavo.parent), "CARGO_TARGET_DIR": str(tmp_path)}
     source = ROOT / "bindings" / ("rust" if is_rust else "go")
-    ran = subprocess.run(command.split(), cwd=source, env=cargo if is_rust else go_settings(libheskavo), check=False, capture_output=True, text=True)
+    ran = subprocess.run(
+        command.split(),
+        cwd=source,
+        env=cargo if is_rust else go_settings(libheskavo),
+        check=False,
+        capture_output=True,
+        text=True,
+    )
     assert ran.returncode == 0, ran.stdout[-2000:] + ran.stderr[-2000:]
     assert ran.stdout == "" or not command.startswith("gofmt"), ran.stdout

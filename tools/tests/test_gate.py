@@ -17,7 +17,13 @@ rt: rb_program: trying its must-fail edits (3)
 rb_program: 2 of 3 refused, in 2 rounds, 5 s and 7 s
 rt: must-fail rb_insn/big_end_first.edit: refused, as it must be
 """
-SECONDS = [("proof", "rb_insn", 93), ("edits", "rb_insn", 150), ("proof", "rb_program", 42), ("tests", "rb_tests", 600), ("edits", "rb_program", 6)]
+SECONDS = [
+    ("proof", "rb_insn", 93),
+    ("edits", "rb_insn", 150),
+    ("proof", "rb_program", 42),
+    ("tests", "rb_tests", 600),
+    ("edits", "rb_program", 6),
+]
 TABLE = """\
 15 minutes of one processor, 8 by the clock on 4 processors
 
@@ -112,7 +118,9 @@ def test_nothing_runs_after_proofs_that_fail(monkeypatch: pytest.MonkeyPatch) ->
     assert [it.failed for it in command.run_all(Times())] == [1] and len(results) == 1
 
 
-def test_without_pytest_a_message_says_so_and_the_part_fails(monkeypatch: pytest.MonkeyPatch, capfd: pytest.CaptureFixture[str]) -> None:
+def test_without_pytest_a_message_says_so_and_the_part_fails(
+    monkeypatch: pytest.MonkeyPatch, capfd: pytest.CaptureFixture[str]
+) -> None:
     monkeypatch.setattr(unit_tests, "python", lambda: None)
     result = parts.run(unit_tests.command("test_gate.py"))
     assert (result.passed, result.failed) == (0, 1)

@@ -26,6 +26,7 @@ from header import c_header, crate_source, rust_binding
 from header.comparison import binding_differences, differences, enum_of
 from header.declarations import Declarations
 from header.layouts import compiled_layouts, layouts_differ
+
 from heskavo.program import library
 from heskavo.repository import CRATES, ROOT, libraries_of_crates
 
@@ -54,7 +55,9 @@ def below() -> Declarations:
 
 def sources_below(crate: str) -> list[pathlib.Path]:
     """Returns the sources of the crates that a crate uses."""
-    return [source for used in libraries_of_crates()[crate] for source in sorted((CRATES / used / "src").glob("**/*.rt"))]
+    return [
+        source for used in libraries_of_crates()[crate] for source in sorted((CRATES / used / "src").glob("**/*.rt"))
+    ]
 
 
 def exchanges(of: Declarations) -> Iterator[tuple[str, Declarations]]:
@@ -64,23 +67,37 @@ def exchanges(of: Declarations) -> Iterator[tuple[str, Declarations]]:
             if numbers[one] == numbers[other]:
                 continue
             changed = {**numbers, one: numbers[other], other: numbers[one]}
-            yield f"the numbers of {one} and {other}", dataclasses.replace(of, numberings={**of.numberings, enum: changed})
+            yield f"the numbers of {one} and {other}", dataclasses.replace(
+                of, numberings={**of.numberings, enum: changed}
+            )
     for struct, fields in of.structs.items():
         for at in range(len(fields) - 1):
-            changed_fields = (*fields[:at], fields[at + 1], fields[at], *fields[at + 2:])
-            yield f"the fields {fields[at].name} and {fields[at + 1].name} of {struct}", dataclasses.replace(of, structs={**of.structs, struct: changed_fields})
+            changed_fields = (*fields[:at], fields[at + 1], fields[at], *fields[at + 2 :])
+            yield f"the fields {fields[at].name} and {fields[at + 1].name} of {struct}", dataclasses.replace(
+                of, structs={**of.structs, struct: changed_fields}
+            )
     for name, function in of.functions.items():
         given = function.parameters
         for at in range(len(given) - 1):
-            changed_call = dataclasses.replace(function, parameters=(*given[:at], given[at + 1], given[at], *given[at + 2:]))
-            yield f"the parameters {given[at].name} and {given[at + 1].name} of {name}", dataclasses.replace(of, functions={**of.functions, name: changed_call})
+            changed_call = dataclasses.replace(
+                function, parameters=(*given[:at], given[at + 1], given[at], *given[at + 2 :])
+            )
+            yield f"the parameters {given[at].name} and {given[at + 1].name} of {name}", dataclasses.replace(
+                of, functions={**of.functions, name: changed_call}
+            )
 
 
 def bindings() -> dict[str, Declarations]:
     """Returns what each binding in Rust declares, by the folder of its sources."""
-    files = [file for folder in ("examples/embed", "bindings") for file in sorted((ROOT / folder).glob("**/src/**/*.rs"))]
-    folders = dict.fromkeys(file.parent for file in files if "target" not in file.parts and 'extern "C" {' in file.read_text())
-    return {str(folder.relative_to(ROOT)): rust_binding.declarations(sorted(folder.glob("**/*.rs"))) for folder in folders}
+    files = [
+        file for folder in ("examples/embed", "bindings") for file in sorted((ROOT / folder).glob("**/src/**/*.rs"))
+    ]
+    folders = dict.fromkeys(
+        file.parent for file in files if "target" not in file.parts and 'extern "C" {' in file.read_text()
+    )
+    return {
+        str(folder.relative_to(ROOT)): rust_binding.declarations(sorted(folder.glob("**/*.rs"))) for folder in folders
+    }
 
 
 def kept_library() -> pathlib.Path | None:
@@ -97,12 +114,20 @@ def failed_calls(made: pathlib.Path) -> list[str]:
         words = ["gcc", "-std=c11", "-Wall", "-Wextra", "-Werror", f"-I{HEADER.parent}", str(CALLS), str(made)]
         if b"heap.pic.o/" not in made.read_bytes():
             # What `rt lib` builds leaves malloc, realloc and free to the kit's allocator.
-            kit = pathlib.Path(subprocess.run(["rt", "doc"], check=True, capture_output=True, text=True).stdout.strip()).parent
+            kit = pathlib.Path(
+                subprocess.run(["rt", "doc"], check=True, capture_output=True, text=True).stdout.strip()
+            ).parent
             subprocess.run(["ar", "x", str(kit / "c" / "liblibc_c.a"), "heap.pic.o"], cwd=folder, check=True)
             words.append("heap.pic.o")
         subprocess.run([*words, "-o", str(built)], cwd=folder, check=True)
         run = subprocess.run([str(built)], check=False, capture_output=True, text=True, timeout=60)
-    return run.stdout.splitlines() if run.returncode == 1 else [] if run.returncode == 0 else [f"calls.c ended with {run.returncode}"]
+    return (
+        run.stdout.splitlines()
+        if run.returncode == 1
+        else []
+        if run.returncode == 0
+        else [f"calls.c ended with {run.returncode}"]
+    )
 
 
 def test_the_header_declares_the_library() -> None:
@@ -137,9 +162,14 @@ def test_exchanges_in_bindings_are_found() -> None:
     for folder, binding in bindings().items():
         # A binding may have constants of its own.
         numberings = binding.numberings.items()
-        shared = {name: {it: number for it, number in numbers.items() if it in enum_of(header(), numbers)[1]} for name, numbers in numberings}
+        shared = {
+            name: {it: number for it, number in numbers.items() if it in enum_of(header(), numbers)[1]}
+            for name, numbers in numberings
+        }
         tried = exchanges(dataclasses.replace(binding, numberings=shared))
-        unfound += [f"{name}, exchanged in {folder}" for name, changed in tried if not binding_differences(header(), changed)]
+        unfound += [
+            f"{name}, exchanged in {folder}" for name, changed in tried if not binding_differences(header(), changed)
+        ]
     assert not unfound, unfound
 
 

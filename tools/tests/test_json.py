@@ -21,7 +21,23 @@ COUNT, SEED = 200, 1
 EXACT = 1 << 53
 DISCARDED = 1 << 30
 SHOWN = 10
-TEXTS = ['"', "\\", "/", "\x00", "\x1f", "\x7f", "\n", "\t", "a", "\u00e9", "\u2028", "\ud7ff", "\ue000", "\U0001f600", "\U0010ffff"]
+TEXTS = [
+    '"',
+    "\\",
+    "/",
+    "\x00",
+    "\x1f",
+    "\x7f",
+    "\n",
+    "\t",
+    "a",
+    "\u00e9",
+    "\u2028",
+    "\ud7ff",
+    "\ue000",
+    "\U0001f600",
+    "\U0010ffff",
+]
 BROKEN = [b"\xff", b"\xc3", b"\xc0\x80", b"\xed\xa0\x80", b"\xf4\x90\x80\x80", b"\xe2\x80", b"\x80"]
 
 
@@ -197,7 +213,13 @@ def drawing_fields(line):
     """Returns the expected object of a drawing of a ring."""
     first, consumer, *records, producer, free = line.split(" | ")
     boxes = [[("status", kind), ("bytes", int(size)), *pairs(rest)] for kind, size, *rest in map(str.split, records)]
-    return [*pairs(first.split()), *pairs(consumer.split()), ("records", boxes), *pairs(producer.split()), *pairs(free.split())]
+    return [
+        *pairs(first.split()),
+        *pairs(consumer.split()),
+        ("records", boxes),
+        *pairs(producer.split()),
+        *pairs(free.split()),
+    ]
 
 
 def of_sim(lines, _):
@@ -227,7 +249,15 @@ def drawn_script(draw, programs):
     lines = [f"ring 4096 {draw.choice([0, EXACT, EXACT + 8])} {draw.choice([8, 64])}" for _ in range(2)]
     lines += [f"worker {b''.join(worker).decode()} {'00' * 24}" for worker in workers]
     for _ in range(draw.randrange(12)):
-        lines.append(draw.choice([f"w {draw.randrange(len(workers))} {draw.randrange(1, 12)}", f"c {draw.randrange(2)} {draw.randrange(1, 4)}", f"k {draw.randrange(2)}"]))
+        lines.append(
+            draw.choice(
+                [
+                    f"w {draw.randrange(len(workers))} {draw.randrange(1, 12)}",
+                    f"c {draw.randrange(2)} {draw.randrange(1, 4)}",
+                    f"k {draw.randrange(2)}",
+                ]
+            )
+        )
     return "".join(f"{line}\n" for line in lines).encode()
 
 
@@ -273,7 +303,9 @@ def cases(count, draw):
         start, tape, wanted = drawn_tape(draw)
         cut = draw.random() < 0.2 and tape
         given = tape[: draw.randrange(len(tape))] if cut else tape
-        yield ["tape", "--size", "4096", "--start", str(start)], given, lambda lines, _, wanted=wanted: wanted[: len(lines)]
+        yield ["tape", "--size", "4096", "--start", str(start)], given, lambda lines, _, wanted=wanted: wanted[
+            : len(lines)
+        ]
     for path in sorted((ROOT / "examples").glob("*.hex")):
         yield ["check"], path.read_bytes(), of_check
         yield ["check", "--rings", "3"], path.read_bytes(), of_check
@@ -287,7 +319,9 @@ def cases(count, draw):
     programs = [path.read_bytes() for path in sorted((ROOT / "examples").glob("*.hex"))]
     for _ in range(count):
         yield ["sim", *draw.choice([[], ["--draw"]])], drawn_script(draw, programs), of_sim
-        yield ["explain", "--rings", str(draw.randrange(3)), "--ctx", str(draw.choice([0, 8, 16]))], drawn_program(draw, draw.choice(programs)), of_explain
+        yield ["explain", "--rings", str(draw.randrange(3)), "--ctx", str(draw.choice([0, 8, 16]))], drawn_program(
+            draw, draw.choice(programs)
+        ), of_explain
 
 
 @functools.cache

@@ -35,7 +35,14 @@ USAGE = "usage: tape --pinned PATH [--take | --follow] | tape --size N [--rings 
 
 def tape(*words: object, given: bytes = b"", **settings: str) -> tuple[int, bytes, str]:
     """Runs tools/linux/tape, and returns its status and what it writes."""
-    run = subprocess.run([str(LINUX / "tape"), *map(str, words)], input=given, env={**os.environ, **settings}, check=False, capture_output=True, timeout=120)
+    run = subprocess.run(
+        [str(LINUX / "tape"), *map(str, words)],
+        input=given,
+        env={**os.environ, **settings},
+        check=False,
+        capture_output=True,
+        timeout=120,
+    )
     return run.returncode, run.stdout, run.stderr.decode()
 
 
@@ -65,7 +72,9 @@ def numbers(written: bytes) -> list[int]:
 
 def follower(pin: pathlib.Path, output: int) -> subprocess.Popen[bytes]:
     """Follows a pinned ring."""
-    return subprocess.Popen([str(LINUX / "tape"), "--pinned", str(pin), "--follow"], stdout=output, stderr=subprocess.DEVNULL)
+    return subprocess.Popen(
+        [str(LINUX / "tape"), "--pinned", str(pin), "--follow"], stdout=output, stderr=subprocess.DEVNULL
+    )
 
 
 def end(followed: subprocess.Popen[bytes]) -> None:
@@ -113,7 +122,11 @@ def test_wrong_words(pins: pathlib.Path) -> None:
     assert tape("--size", "2K", given=SUBMIT_42) == (2, b"", power)
     assert tape("--size", "4k", given=SUBMIT_42) == (2, b"", USAGE)
     assert tape("--size", "4K", "--take", given=SUBMIT_42) == (2, b"", USAGE)
-    assert tape("--size", "4K", given=b"no hex") == (1, b"", "tape: standard input is not a program in hex, 1 to 4096 units of eight bytes\n")
+    assert tape("--size", "4K", given=b"no hex") == (
+        1,
+        b"",
+        "tape: standard input is not a program in hex, 1 to 4096 units of eight bytes\n",
+    )
     assert tape("--size", "4K", given=b"9500000000000000")[0] == 1
     nowhere = f"tape: {pins.parent}/ring is not in a BPF file system; `mount -t bpf bpf /sys/fs/bpf` mounts one\n"
     assert tape("--pinned", pins.parent / "ring") == (1, b"", nowhere)

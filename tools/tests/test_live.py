@@ -23,7 +23,10 @@ LIMIT = 0.1
 # How many bytes each record takes.
 EACH = 16
 # A program that works for some microseconds, and then outputs the second eight bytes of its context, the job's number.
-SLOW = "b700000000000000 " * 2000 + "bf12000000000000 0702000008000000 1851000000000000 0000000000000000 b703000008000000 b704000000000000 8500000082000000 9500000000000000"
+SLOW = (
+    "b700000000000000 " * 2000
+    + "bf12000000000000 0702000008000000 1851000000000000 0000000000000000 b703000008000000 b704000000000000 8500000082000000 9500000000000000"
+)
 # All jobs of four workers send fewer bytes than this ring has, so that none is refused.
 JOBS, RING = 1_000_000, 67_108_864
 
@@ -88,7 +91,18 @@ def interrupted(program: str, workers: int) -> str:
     """What is wrong with the tape of a run of so many workers that is interrupted once jobs were reported; nothing if all is well."""
     with tempfile.TemporaryDirectory() as folder:
         path = os.path.join(folder, "tape")
-        words = ["run", "--workers", str(workers), "--jobs", str(JOBS), "--size", str(RING), "--tape", path, "--progress"]
+        words = [
+            "run",
+            "--workers",
+            str(workers),
+            "--jobs",
+            str(JOBS),
+            "--size",
+            str(RING),
+            "--tape",
+            path,
+            "--progress",
+        ]
         process = started(program, words)
         try:
             process.stdin.write(SLOW.encode())

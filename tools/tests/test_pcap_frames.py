@@ -40,8 +40,8 @@ def split(stream):
     packets = []
     while stream:
         length = struct.unpack("<I", stream[:4])[0]
-        packets.append(stream[4:4 + length])
-        stream = stream[4 + length:]
+        packets.append(stream[4 : 4 + length])
+        stream = stream[4 + length :]
     return packets
 
 
@@ -63,12 +63,15 @@ def test_cut_at_every_byte():
     for end in range(len(text)):
         status, out, err = run(text[:end])
         if end in ends:
-            assert (status, out, err) == (0, frames([b"ab", b"", b"c"][:ends[end]]), ""), end
+            assert (status, out, err) == (0, frames([b"ab", b"", b"c"][: ends[end]]), ""), end
         elif end < 24:
             assert status == 1 and out == b"" and "is no capture" in err, end
         else:
             whole = max(count for at, count in ends.items() if at <= end)
-            assert (status, out) == (1, frames([b"ab", b"", b"c"][:whole])) and f"ends inside packet {whole}" in err, end
+            assert (status, out) == (
+                1,
+                frames([b"ab", b"", b"c"][:whole]),
+            ) and f"ends inside packet {whole}" in err, end
 
 
 def test_refusals():
@@ -129,5 +132,7 @@ def test_tcpdump():
             live = it.stdout.read()
             dump.wait(), tee.wait()
             assert it.wait() == 0
-            assert [p[-len(q):] for p, q in zip(split(live), payloads)] == payloads and len(split(live)) == len(payloads)
+            assert [p[-len(q) :] for p, q in zip(split(live), payloads)] == payloads and len(split(live)) == len(
+                payloads
+            )
             assert run(file.read_bytes()) == (0, live, "")

@@ -19,7 +19,9 @@ SCRIPT = "ring 4096 0\n" * 16 + f"worker {SUBMIT_42}\n" + "w 0 1000000\n"
 
 def started(program: str, command: str) -> "subprocess.Popen[bytes]":
     """Starts a command, whose output is discarded."""
-    return subprocess.Popen([program, *command.split()], stdin=subprocess.PIPE, stdout=subprocess.DEVNULL, stderr=subprocess.PIPE)
+    return subprocess.Popen(
+        [program, *command.split()], stdin=subprocess.PIPE, stdout=subprocess.DEVNULL, stderr=subprocess.PIPE
+    )
 
 
 def slowly(program: str, command: str, piece: bytes) -> str:

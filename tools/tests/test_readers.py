@@ -22,9 +22,23 @@ SECONDS = 600
 
 def build(folder: pathlib.Path, library: pathlib.Path) -> pathlib.Path:
     """Builds the comparison in the folder, and returns its path."""
-    words = ["gcc", "-std=gnu11", "-Wall", "-Wextra", "-Werror", "-O2", "-D_GNU_SOURCE", f"-I{ROOT / 'include'}", f"-I{SOURCES}"]
+    words = [
+        "gcc",
+        "-std=gnu11",
+        "-Wall",
+        "-Wextra",
+        "-Werror",
+        "-O2",
+        "-D_GNU_SOURCE",
+        f"-I{ROOT / 'include'}",
+        f"-I{SOURCES}",
+    ]
     objects = []
-    for name, source, flags in (("libbpf", "reader.c", ["-DOVER_LIBBPF"]), ("heskavo", "reader.c", []), ("main", "readers.c", [])):
+    for name, source, flags in (
+        ("libbpf", "reader.c", ["-DOVER_LIBBPF"]),
+        ("heskavo", "reader.c", []),
+        ("main", "readers.c", []),
+    ):
         objects.append(str(folder / f"{name}.o"))
         subprocess.run([*words, *flags, "-c", str(SOURCES / source), "-o", objects[-1]], check=True)
     built = folder / "readers"

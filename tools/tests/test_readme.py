@@ -77,11 +77,22 @@ def run(block: Block, top: pathlib.Path, scratch: pathlib.Path) -> list[str]:
         return text.replace("/tmp/", f"{scratch}/")
 
     try:
-        ran = subprocess.run(["bash", "-c", here(block.commands)], cwd=top, stdin=subprocess.DEVNULL, stdout=subprocess.PIPE, stderr=subprocess.STDOUT, timeout=SECONDS)
+        ran = subprocess.run(
+            ["bash", "-c", here(block.commands)],
+            cwd=top,
+            stdin=subprocess.DEVNULL,
+            stdout=subprocess.PIPE,
+            stderr=subprocess.STDOUT,
+            timeout=SECONDS,
+        )
     except subprocess.TimeoutExpired:
         return [f"did not end within {SECONDS} seconds"]
     # The reports of tools/rbhost about its own work are not output of the block.
-    printed = "".join(it for it in ran.stdout.decode(errors="replace").splitlines(keepends=True) if not it.startswith("tools/rbhost: "))
+    printed = "".join(
+        it
+        for it in ran.stdout.decode(errors="replace").splitlines(keepends=True)
+        if not it.startswith("tools/rbhost: ")
+    )
     if block.printed is None:
         return [] if ran.returncode == 0 else [f"status {ran.returncode}", *printed.splitlines()[-10:]]
     wanted = here(block.printed)

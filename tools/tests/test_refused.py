@@ -132,7 +132,11 @@ EDITS = {
     "a_cap_too_high": ("if n < 100 { n } else { CAP }", "if n < 101 { n } else { 101 }", "refused"),
     "another_cap_too_high": ("if n < 100 { n } else { CAP }", "if n < 100 { n } else { 200 }", "refused"),
     "hidden_by_what_it_calls": ("    number + 1", "    number + 2", "refused"),
-    "a_branch_of_its_own": ("    let number = capped(n);", "    let number = capped(n); if n == 7 { return 200; }", "refused"),
+    "a_branch_of_its_own": (
+        "    let number = capped(n);",
+        "    let number = capped(n); if n == 7 { return 200; }",
+        "refused",
+    ),
     "the_same_by_another_way": ("    let number = n;", "    let number = n + 0;", "PROVED"),
     "no_such_type": ("    let number = capped(n);", "    let number: Missing = capped(n);", "BAD EDIT"),
     "no_such_text": ("    let number = n * 7;", "    let number = n;", "BAD EDIT"),
@@ -151,7 +155,10 @@ NOTED = ("twice_and_one_more", "# without the answers: returns-clause-exact\n# l
 
 
 # Two of them with a right body's text in place of theirs; the right body of the crate has none of the second's goals.
-RIGHT = (("hidden_by_what_it_calls", "    1 + number"), ("a_branch_of_its_own", "    let number = capped(n); if n == 7 { return 7; }"))
+RIGHT = (
+    ("hidden_by_what_it_calls", "    1 + number"),
+    ("a_branch_of_its_own", "    let number = capped(n); if n == 7 { return 7; }"),
+)
 
 
 def make(root: pathlib.Path) -> None:
@@ -165,7 +172,9 @@ def make(root: pathlib.Path) -> None:
         (crate / file).parent.mkdir(parents=True, exist_ok=True)
         (crate / file).write_text(text)
     for name, (old, new, _) in EDITS.items():
-        (crate / ("planted" if name in PLANTED else "refused") / f"{name}.edit").write_text(f"file: src/lib.rt\nold: {old}\nnew: {new}\n")
+        (crate / ("planted" if name in PLANTED else "refused") / f"{name}.edit").write_text(
+            f"file: src/lib.rt\nold: {old}\nnew: {new}\n"
+        )
     subprocess.run(["git", "init", "-q", str(root)], check=True)
 
 
@@ -222,7 +231,9 @@ def test_each_mutant_is_reported_as_it_is() -> None:
 
 
 def test_over_notes_the_outcomes_are_the_same() -> None:
-    assert outcomes(runs().over_notes.stdout) == WANTED | {name: "PROVED" for name, _ in RIGHT}, runs().over_notes.stdout
+    assert outcomes(runs().over_notes.stdout) == WANTED | {
+        name: "PROVED" for name, _ in RIGHT
+    }, runs().over_notes.stdout
 
 
 def test_the_last_line_and_the_status_tell_what_failed() -> None:
@@ -257,14 +268,28 @@ def test_over_the_gate_those_in_planted_are_not_tried() -> None:
 
 def test_a_closure_counts_for_its_function() -> None:
     owner = edit_files.Owner("chapters", None, None, "used")
-    said = {"rings::chapters::fn::used::with_state": "open", "rings::chapters::used": "it calls", "rings::chapters::fn::other::with_state": "proved"}
+    said = {
+        "rings::chapters::fn::used::with_state": "open",
+        "rings::chapters::used": "it calls",
+        "rings::chapters::fn::other::with_state": "proved",
+    }
     assert owner.lines("rings", said) == ["open", "it calls"]
 
 
 def test_a_goal_that_names_no_clause_counts_for_the_one_clause_of_its_function() -> None:
-    changed = SimpleNamespace(crate=SimpleNamespace(name=NAME), owners={edit_files.Owner("lib", None, None, name) for name in ("capped", "next_of")})
-    found = {name: [clauses.Clause(NAME, name, it, "result ≤ 100") for it in those] for name, those in (("capped", ["small", "least"]), ("next_of", ["small"]))}
-    cases = {"returns-then-n-clause-least": {"capped least"}, "returns-then-n": {"next_of small"}, "subtract-requires": set()}
+    changed = SimpleNamespace(
+        crate=SimpleNamespace(name=NAME),
+        owners={edit_files.Owner("lib", None, None, name) for name in ("capped", "next_of")},
+    )
+    found = {
+        name: [clauses.Clause(NAME, name, it, "result ≤ 100") for it in those]
+        for name, those in (("capped", ["small", "least"]), ("next_of", ["small"]))
+    }
+    cases = {
+        "returns-then-n-clause-least": {"capped least"},
+        "returns-then-n": {"next_of small"},
+        "subtract-requires": set(),
+    }
     for goal, wanted in cases.items():
         assert clauses.opened(changed, [goal], lambda crate: found) == wanted
 
@@ -275,8 +300,16 @@ def test_an_error_at_a_tactic_on_a_goal_leaves_it_open() -> None:
         "use A.B.Goals as goal\n\npub one : goal.one\none c =\n    let x = f c in\n    omega arith\n\npub two : goal.two\n"
         "two c = elim c.match-at.branch [ in-A w ↦ grind arith | in-B w ↦ omega arith ]\n\npub three : goal.three\nthree c = f (omega arith)\n"
     )
-    places = {"one": (6, 5), "in the first case": (9, 43), "in the second case": (9, 66), "let": (5, 13), "inside a term": (12, 14)}
-    found = [name for name, (line, column) in places.items() if answers.is_of_the_goal(text, kit.Error("", line, column, ""))]
+    places = {
+        "one": (6, 5),
+        "in the first case": (9, 43),
+        "in the second case": (9, 66),
+        "let": (5, 13),
+        "inside a term": (12, 14),
+    }
+    found = [
+        name for name, (line, column) in places.items() if answers.is_of_the_goal(text, kit.Error("", line, column, ""))
+    ]
     assert found == ["one", "in the first case", "in the second case"]
     assert answers.unfit(text, [kit.Error("", 12, 14, "")]) == {"three"}
 

@@ -13,7 +13,18 @@ import threading
 import time
 
 import pytest
-from stream_host import SECONDS, SEGMENT, Counters, Host, assert_no_gaps, assert_same, output_program, printed, records, segments
+from stream_host import (
+    SECONDS,
+    SEGMENT,
+    Counters,
+    Host,
+    assert_no_gaps,
+    assert_same,
+    output_program,
+    printed,
+    records,
+    segments,
+)
 
 # How many contexts are written while the oldest segments are deleted.
 CONTEXTS = 20_000
@@ -36,7 +47,22 @@ def seconds(request: pytest.FixtureRequest) -> int:
 def test_restarts(host: Host) -> None:
     """Hosts that are killed at random moments, and a follower of all of them."""
     program, folder = host.file("all.hex", output_program(0, 16)), host.folder / "segments"
-    words = host.words("--ring", "events:64K", "--program", program, "--workers", "2", "--ctx", "16", "--in", "fixed", "--out", str(folder), "--segment", "20K")
+    words = host.words(
+        "--ring",
+        "events:64K",
+        "--program",
+        program,
+        "--workers",
+        "2",
+        "--ctx",
+        "16",
+        "--in",
+        "fixed",
+        "--out",
+        str(folder),
+        "--segment",
+        "20K",
+    )
     number, follower = 0, None
     try:
         for life in range(RESTARTS + 1):
@@ -69,8 +95,14 @@ def test_restarts(host: Host) -> None:
         found = segments(folder, "events")
         numbers = [struct.unpack("<QQ", it)[1] for _, tape in found for it in records(tape)]
         assert_no_gaps(found)
-        assert_same(first=(found[0][0], 0), again=(len(set(numbers)), len(numbers)), rising=(len(numbers) > RESTARTS, True), many=(len(found) > 3, True),
-                                      follow=(status, 0), same=(lines[0].decode() == printed(host, 65536, found), True))
+        assert_same(
+            first=(found[0][0], 0),
+            again=(len(set(numbers)), len(numbers)),
+            rising=(len(numbers) > RESTARTS, True),
+            many=(len(found) > 3, True),
+            follow=(status, 0),
+            same=(lines[0].decode() == printed(host, 65536, found), True),
+        )
     finally:
         if follower:
             follower.kill()
@@ -79,7 +111,22 @@ def test_restarts(host: Host) -> None:
 def test_cut_record(host: Host) -> None:
     """A segment that was cut inside a record."""
     program, folder = host.file("all.hex", output_program(0, 8)), host.folder / "segments"
-    words = ["--ring", "events:4096", "--program", program, "--workers", "1", "--ctx", "8", "--in", "fixed", "--out", str(folder), "--segment", "64"]
+    words = [
+        "--ring",
+        "events:4096",
+        "--program",
+        program,
+        "--workers",
+        "1",
+        "--ctx",
+        "8",
+        "--in",
+        "fixed",
+        "--out",
+        str(folder),
+        "--segment",
+        "64",
+    ]
     assert_same(status=(host.run(b"".join(struct.pack("<Q", n) for n in range(10)), *words)[0], 0))
     names = [position for position, _ in segments(folder, "events")]
     last = folder / f"events.{names[-1]:020}.tape"
@@ -88,7 +135,12 @@ def test_cut_record(host: Host) -> None:
     found = segments(folder, "events")
     numbers = [struct.unpack("<Q", it)[0] for _, tape in found for it in records(tape)]
     assert_no_gaps(found)
-    assert_same(status=(status, 0), names=(names, [0, 64, 128]), numbers=(numbers, [*range(9), 99]), made=(counters.ring("events").get("made"), 1))
+    assert_same(
+        status=(status, 0),
+        names=(names, [0, 64, 128]),
+        numbers=(numbers, [*range(9), 99]),
+        made=(counters.ring("events").get("made"), 1),
+    )
 
 
 def test_refusals(host: Host) -> None:
@@ -96,7 +148,20 @@ def test_refusals(host: Host) -> None:
     program, folder = host.file("all.hex", output_program(0, 8)), host.folder / "segments"
 
     def words(size: str) -> list[str]:
-        return ["--ring", f"events:{size}", "--program", program, "--workers", "1", "--ctx", "8", "--in", "fixed", "--out", str(folder)]
+        return [
+            "--ring",
+            f"events:{size}",
+            "--program",
+            program,
+            "--workers",
+            "1",
+            "--ctx",
+            "8",
+            "--in",
+            "fixed",
+            "--out",
+            str(folder),
+        ]
 
     first = subprocess.Popen(host.words(*words("4096")), stdin=subprocess.PIPE, stderr=subprocess.PIPE)
     try:
@@ -111,26 +176,59 @@ def test_refusals(host: Host) -> None:
     ended = (folder / "events.end").exists()
     (folder / "events.ring").write_text("heskavo-segments 1 size 4096\n")
     damaged = host.run(b"", *words("4096"))
-    assert_same(first=(first.returncode, 0), locked=((locked[0], locked[2].text), (1, f"refused directory {folder}: another host writes to it\n")),
-                   other=((other[0], other[2].text), (1, "refused ring events has size 4096 in the directory\n")), ended=(ended, True), unopened=(unopened, True),
-                   damaged=((damaged[0], damaged[2].text), (1, "refused segments of ring events\n")))
+    assert_same(
+        first=(first.returncode, 0),
+        locked=((locked[0], locked[2].text), (1, f"refused directory {folder}: another host writes to it\n")),
+        other=((other[0], other[2].text), (1, "refused ring events has size 4096 in the directory\n")),
+        ended=(ended, True),
+        unopened=(unopened, True),
+        damaged=((damaged[0], damaged[2].text), (1, "refused segments of ring events\n")),
+    )
 
 
 def test_keep(host: Host) -> None:
     """Segments of which the oldest are deleted."""
     program, folder = host.file("all.hex", output_program(0, 120)), host.folder / "segments"
-    words = ["--ring", "events:4M", "--program", program, "--workers", "2", "--ctx", "120", "--in", "fixed", "--out", str(folder), "--segment", "64K", "--keep", "1M"]
+    words = [
+        "--ring",
+        "events:4M",
+        "--program",
+        program,
+        "--workers",
+        "2",
+        "--ctx",
+        "120",
+        "--in",
+        "fixed",
+        "--out",
+        str(folder),
+        "--segment",
+        "64K",
+        "--keep",
+        "1M",
+    ]
     contexts = b"".join(struct.pack("<Q", n).ljust(120, b"\0") for n in range(CONTEXTS))
     for _ in range(2):
         assert_same(status=(host.run(contexts, *words)[0], 0))
     found = segments(folder, "events")
     end, oldest = found[-1][0] + len(found[-1][1]), found[0][0]
-    late = subprocess.run([host.program, "follow", str(folder), "events"], capture_output=True, timeout=SECONDS, check=False)
-    gone = subprocess.run([host.program, "follow", str(folder), "events", "--from", "0"], capture_output=True, timeout=SECONDS, check=False)
+    late = subprocess.run(
+        [host.program, "follow", str(folder), "events"], capture_output=True, timeout=SECONDS, check=False
+    )
+    gone = subprocess.run(
+        [host.program, "follow", str(folder), "events", "--from", "0"],
+        capture_output=True,
+        timeout=SECONDS,
+        check=False,
+    )
     assert_no_gaps(found)
-    assert_same(end=(end, 2 * CONTEXTS * 128), kept=(2 ** 20 - 65536 - 128 <= end - oldest <= 2 ** 20, True), full=({len(tape) for _, tape in found[:-1]}, {65536}),
-                                  late=((late.returncode, late.stdout.decode() == printed(host, 2 ** 22, found)), (0, True)),
-                                  gone=((gone.returncode, gone.stderr.decode()), (1, f"refused deleted; the oldest record is at {oldest}\n")))
+    assert_same(
+        end=(end, 2 * CONTEXTS * 128),
+        kept=(2**20 - 65536 - 128 <= end - oldest <= 2**20, True),
+        full=({len(tape) for _, tape in found[:-1]}, {65536}),
+        late=((late.returncode, late.stdout.decode() == printed(host, 2**22, found)), (0, True)),
+        gone=((gone.returncode, gone.stderr.decode()), (1, f"refused deleted; the oldest record is at {oldest}\n")),
+    )
 
 
 def unbroken(folder: pathlib.Path, ring: str) -> tuple[str, int, int]:
@@ -142,7 +240,14 @@ def unbroken(folder: pathlib.Path, ring: str) -> tuple[str, int, int]:
             if name and name[1] == ring:
                 sizes.append((int(name[2]), path.stat().st_size))
     # The newest two may grow while they are listed.
-    wrong = next((f"the segment before {after} ends at {here + size}" for (here, size), (after, _) in zip(sizes, sizes[1:-1]) if here + size != after), "")
+    wrong = next(
+        (
+            f"the segment before {after} ends at {here + size}"
+            for (here, size), (after, _) in zip(sizes, sizes[1:-1])
+            if here + size != after
+        ),
+        "",
+    )
     return wrong, sizes[0][0] if sizes else 0, sum(size for _, size in sizes)
 
 
@@ -157,7 +262,24 @@ def followed(lines: str) -> int:
 def test_long_keep(host: Host, seconds: int) -> None:
     """Segments that are deleted for a long time, and a follower that comes late."""
     program, folder = host.file("all.hex", output_program(0, 120)), host.folder / "segments"
-    words = host.words("--ring", "events:4M", "--program", program, "--workers", "2", "--ctx", "120", "--in", "fixed", "--out", str(folder), "--segment", "64K", "--keep", "1M")
+    words = host.words(
+        "--ring",
+        "events:4M",
+        "--program",
+        program,
+        "--workers",
+        "2",
+        "--ctx",
+        "120",
+        "--in",
+        "fixed",
+        "--out",
+        str(folder),
+        "--segment",
+        "64K",
+        "--keep",
+        "1M",
+    )
     started = subprocess.Popen(words, stdin=subprocess.PIPE, stderr=subprocess.PIPE)
     follower, number, begins, most = None, 0, (0, 0), 0
     try:
@@ -178,18 +300,28 @@ def test_long_keep(host: Host, seconds: int) -> None:
                     time.sleep(0.01)
                 begins = (before, unbroken(folder, "events")[1])
             # A follower that falls behind what is kept is refused, as it should be, so the input waits for one that is delayed by other load.
-            while follower and follower.poll() is None and number * 128 - followed(lines.name) > 2 ** 19:
+            while follower and follower.poll() is None and number * 128 - followed(lines.name) > 2**19:
                 time.sleep(0.01)
             time.sleep(0.01)
         told = started.communicate(timeout=SECONDS)[1].decode()
         status = follower.wait(timeout=SECONDS)
         positions = [int(it) for it in re.findall(r'"pos":"?(\d+)', (host.folder / "lines").read_text())]
-        gap = next((f"after {here} follows {there}" for here, there in zip(positions, positions[1:]) if there - here != 128), "")
+        gap = next(
+            (f"after {here} follows {there}" for here, there in zip(positions, positions[1:]) if there - here != 128),
+            "",
+        )
         found = segments(folder, "events")
         assert gap == ""
         assert_no_gaps(found)
-        assert_same(status=(started.returncode, 0), read=(Counters(told).read, number), follow=(status, 0), first=(begins[0] <= positions[0] <= begins[1], True),
-                                             last=(positions[-1] + 128, number * 128), deleted=(found[0][0] > 0, True), kept=(most <= 2 ** 20 + 2 * 2 ** 16, True))
+        assert_same(
+            status=(started.returncode, 0),
+            read=(Counters(told).read, number),
+            follow=(status, 0),
+            first=(begins[0] <= positions[0] <= begins[1], True),
+            last=(positions[-1] + 128, number * 128),
+            deleted=(found[0][0] > 0, True),
+            kept=(most <= 2**20 + 2 * 2**16, True),
+        )
     finally:
         started.kill()
         if follower:
@@ -205,8 +337,28 @@ def resources(process: int) -> tuple[int, int]:
 def test_long_speed(host: Host, seconds: int) -> None:
     """A host at full speed for a long time."""
     program, folder = host.file("all.hex", output_program(0, 24)), host.folder / "segments"
-    words = host.words("--ring", "events:4M", "--program", program, "--workers", "4", "--ctx", "128", "--in", "fixed", "--out", str(folder), "--segment", "16M", "--keep", "64M",
-                       "--metrics", str(host.folder / "metrics"), "--every", "1")
+    words = host.words(
+        "--ring",
+        "events:4M",
+        "--program",
+        program,
+        "--workers",
+        "4",
+        "--ctx",
+        "128",
+        "--in",
+        "fixed",
+        "--out",
+        str(folder),
+        "--segment",
+        "16M",
+        "--keep",
+        "64M",
+        "--metrics",
+        str(host.folder / "metrics"),
+        "--every",
+        "1",
+    )
     with open(host.folder / "told", "wb") as told:
         started = subprocess.Popen(words, stdin=subprocess.PIPE, stderr=told)
     seen: list[tuple[int, int]] = []
@@ -223,28 +375,70 @@ def test_long_speed(host: Host, seconds: int) -> None:
     finally:
         started.kill()
     counters = Counters((host.folder / "told").read_text())
-    ring, first, last = counters.ring("events"), seen[len(seen) // 5:len(seen) // 2], seen[len(seen) // 2:]
-    memory, files = [max(it[0] for it in half) for half in (first, last)], [max(it[1] for it in half) for half in (first, last)]
+    ring, first, last = counters.ring("events"), seen[len(seen) // 5 : len(seen) // 2], seen[len(seen) // 2 :]
+    memory, files = [max(it[0] for it in half) for half in (first, last)], [
+        max(it[1] for it in half) for half in (first, last)
+    ]
     if memory[1] > memory[0] * 1.05 + 1024 or files[1] > files[0] + 1:
         pytest.fail(f"memory grew from {memory[0]} to {memory[1]} KiB, open files from {files[0]} to {files[1]}")
-    assert_same(status=(status, 0), read=(counters.read, written), run=(counters.run, written), made=(ring["made"] + ring["refused"], written), consumed=(ring["consumed"], ring["made"]))
+    assert_same(
+        status=(status, 0),
+        read=(counters.read, written),
+        run=(counters.run, written),
+        made=(ring["made"] + ring["refused"], written),
+        consumed=(ring["consumed"], ring["made"]),
+    )
 
 
 def test_full_disk(host: Host) -> None:
     """A disk of 1 MiB."""
     disk = host.folder / "disk"
     disk.mkdir()
-    if os.geteuid() or subprocess.run(["mount", "-t", "tmpfs", "-o", "size=1m", "tmpfs", str(disk)], capture_output=True, check=False).returncode:
+    if (
+        os.geteuid()
+        or subprocess.run(
+            ["mount", "-t", "tmpfs", "-o", "size=1m", "tmpfs", str(disk)], capture_output=True, check=False
+        ).returncode
+    ):
         pytest.skip("a small disk needs root")
     try:
         first, second = host.file("all.hex", output_program(0, 120)), host.file("other.hex", output_program(1, 120))
-        words = ["--ring", "big:4M", "--ring", "other:4M", "--program", first, "--program", second, "--workers", "2", "--ctx", "120", "--in", "fixed", "--segment", "64K"]
+        words = [
+            "--ring",
+            "big:4M",
+            "--ring",
+            "other:4M",
+            "--program",
+            first,
+            "--program",
+            second,
+            "--workers",
+            "2",
+            "--ctx",
+            "120",
+            "--in",
+            "fixed",
+            "--segment",
+            "64K",
+        ]
         status, tape, counters = host.run(bytes(120) * CONTEXTS, *words, "--out", str(disk), "--out", "other=-")
         found = segments(disk, "big")
         whole = b"".join(it for _, it in found)
-        again = subprocess.run([host.program, "tape", "--size", "4194304"], input=whole[:len(whole) // 128 * 128], capture_output=True, timeout=SECONDS, check=False)
+        again = subprocess.run(
+            [host.program, "tape", "--size", "4194304"],
+            input=whole[: len(whole) // 128 * 128],
+            capture_output=True,
+            timeout=SECONDS,
+            check=False,
+        )
         assert_no_gaps(found)
-        assert_same(status=(status, 1), told=(re.findall("^refused .*$", counters.text, re.M), ["refused tape of ring big"]), run=(counters.run, CONTEXTS),
-                                      other=(len(records(tape)), CONTEXTS), some=(2 ** 19 < len(whole) < 2 ** 20, True), records=((again.returncode, again.stdout.count(b"\n")), (0, len(whole) // 128)))
+        assert_same(
+            status=(status, 1),
+            told=(re.findall("^refused .*$", counters.text, re.M), ["refused tape of ring big"]),
+            run=(counters.run, CONTEXTS),
+            other=(len(records(tape)), CONTEXTS),
+            some=(2**19 < len(whole) < 2**20, True),
+            records=((again.returncode, again.stdout.count(b"\n")), (0, len(whole) // 128)),
+        )
     finally:
         subprocess.run(["umount", str(disk)], check=False)

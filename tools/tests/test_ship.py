@@ -32,7 +32,9 @@ if not MISSING:
 def line_of(position: int, payload: int) -> str:
     """Returns a record as `rbhost tape --json` prints it."""
     shown: object = position if position <= 1 << 53 else str(position)
-    return json.dumps({"pos": shown, "len": 8, "discarded": False, "hex": payload.to_bytes(8, "little").hex()}, separators=(",", ":"))
+    return json.dumps(
+        {"pos": shown, "len": 8, "discarded": False, "hex": payload.to_bytes(8, "little").hex()}, separators=(",", ":")
+    )
 
 
 def tape(count: int, first: int = 0, payload: int = 7) -> str:
@@ -52,8 +54,21 @@ class Server:
 
     def start(self) -> None:
         """Starts it, and waits until it answers."""
-        words = ["redis-server", "--bind", "127.0.0.1", "--port", str(self.port), "--dir", str(self.folder), "--save", "", "--appendonly", "yes",
-                 "--appendfsync", "always"]
+        words = [
+            "redis-server",
+            "--bind",
+            "127.0.0.1",
+            "--port",
+            str(self.port),
+            "--dir",
+            str(self.folder),
+            "--save",
+            "",
+            "--appendonly",
+            "yes",
+            "--appendfsync",
+            "always",
+        ]
         self.process = subprocess.Popen(words, stdout=subprocess.DEVNULL)
         Stream("any", "any", self.port)
 
@@ -77,15 +92,26 @@ def server(tmp_path_factory: pytest.TempPathFactory) -> Iterator[Server]:
 
 def send(lines: str, host: str, run: str, port: object) -> tuple[int, str]:
     """Sends lines, and returns the sender's status and its standard error."""
-    ended = subprocess.run([str(SHIP / "send.py"), host, run, str(port)], input=lines, check=False, capture_output=True, text=True, timeout=60)
+    ended = subprocess.run(
+        [str(SHIP / "send.py"), host, run, str(port)],
+        input=lines,
+        check=False,
+        capture_output=True,
+        text=True,
+        timeout=60,
+    )
     return ended.returncode, ended.stderr
 
 
 def read(server: Server, run: str, file: pathlib.Path, wanted: str) -> tuple[int | None, str]:
     """Runs a reader until its file has the wanted number of bytes, and returns its status, or None, and its standard error."""
-    started = subprocess.Popen([str(SHIP / "read.py"), "host", run, str(server.port), str(file)], stderr=subprocess.PIPE, text=True)
+    started = subprocess.Popen(
+        [str(SHIP / "read.py"), "host", run, str(server.port), str(file)], stderr=subprocess.PIPE, text=True
+    )
     end = time.monotonic() + 30
-    while started.poll() is None and (not file.exists() or file.stat().st_size < len(wanted)) and time.monotonic() < end:
+    while (
+        started.poll() is None and (not file.exists() or file.stat().st_size < len(wanted)) and time.monotonic() < end
+    ):
         time.sleep(0.02)
     status = started.poll()
     started.kill()
@@ -103,7 +129,10 @@ def test_sent_again(server: Server) -> None:
 
 def test_other_contents(server: Server) -> None:
     """Another tape under the same run is an error and adds nothing; under a run of its own it is sent."""
-    other = (1, "send.py: tape:host:one has different contents at position 0: this is the tape of another run, and needs another RUN\n")
+    other = (
+        1,
+        "send.py: tape:host:one has different contents at position 0: this is the tape of another run, and needs another RUN\n",
+    )
     assert send(tape(100), "host", "one", server.port) == (0, "")
     assert send(tape(300, payload=8), "host", "one", server.port) == other
     assert server.lines("host", "one") == tape(100)
@@ -116,7 +145,10 @@ def test_other_contents(server: Server) -> None:
 def test_bad_lines(server: Server) -> None:
     """A line that is not a record, or whose position does not increase, is reported; the batches before it are sent."""
     for text in ("pos 0 len 8 2a00000000000000", "[]", '{"len":8}', "7"):
-        assert send(tape(64) + text + "\n", "host", "bad", server.port) == (1, f"send.py: line 65 is not a record of `rbhost tape --json`: {text!r}\n")
+        assert send(tape(64) + text + "\n", "host", "bad", server.port) == (
+            1,
+            f"send.py: line 65 is not a record of `rbhost tape --json`: {text!r}\n",
+        )
     assert server.lines("host", "bad") == tape(64)
     again = "send.py: line 3 has the position 0, and the line before 16: is this one tape?\n"
     assert send(tape(2) + tape(1), "host", "again", server.port) == (1, again)
@@ -137,11 +169,19 @@ def test_no_server() -> None:
         other.bind(("127.0.0.1", 0))
         port = other.getsockname()[1]
         status, said = send(tape(1), "host", "none", port)
-        assert status == 1 and said.startswith(f"send.py: no Redis server answers at port {port} of 127.0.0.1, for 5 seconds: ") and said.count("\n") == 1, said
+        assert (
+            status == 1
+            and said.startswith(f"send.py: no Redis server answers at port {port} of 127.0.0.1, for 5 seconds: ")
+            and said.count("\n") == 1
+        ), said
         other.listen()
         threading.Thread(target=greet, args=(other,), daemon=True).start()
         status, said = send(tape(1), "host", "none", port)
-        assert status == 1 and said.startswith(f"send.py: what answers at port {port} of 127.0.0.1 is not a Redis server: ") and said.count("\n") == 1, said
+        assert (
+            status == 1
+            and said.startswith(f"send.py: what answers at port {port} of 127.0.0.1 is not a Redis server: ")
+            and said.count("\n") == 1
+        ), said
     status, said = send(tape(1), "host", "none", "redis")
     assert status == 2 and said.splitlines()[-1] == "send.py: error: argument PORT: invalid int value: 'redis'", said
 
@@ -149,7 +189,7 @@ def test_no_server() -> None:
 def test_reader(server: Server, tmp_path: pathlib.Path) -> None:
     """A reader continues after the last record of its file, removes an incomplete line, and refuses the file of another run."""
     file, lines = tmp_path / "read", tape(300)
-    assert send(lines[:len(tape(100))], "host", "read", server.port) == (0, "")
+    assert send(lines[: len(tape(100))], "host", "read", server.port) == (0, "")
     assert read(server, "read", file, tape(100)) == (None, "") and file.read_text() == tape(100)
     assert send(lines, "host", "read", server.port) == (0, "")
     with file.open("a") as cut:
@@ -158,14 +198,18 @@ def test_reader(server: Server, tmp_path: pathlib.Path) -> None:
     assert send(tape(400, payload=9), "host", "later", server.port) == (0, "")
     other = f"read.py: tape:host:later does not have the last record of {file}, at position {16 * 299}: the file belongs to another run\n"
     assert read(server, "later", file, lines + "more") == (1, other) and file.read_text() == lines
-    assert read(server, "never", file, lines + "more")[1].startswith("read.py: tape:host:never does not have the last record")
+    assert read(server, "never", file, lines + "more")[1].startswith(
+        "read.py: tape:host:never does not have the last record"
+    )
 
 
 def test_server_goes_away(server: Server, tmp_path: pathlib.Path) -> None:
     """A sender and a reader continue when the server is back; the whole tape is read, once and in order."""
     file, lines = tmp_path / "away", tape(20000)
     reader = subprocess.Popen([str(SHIP / "read.py"), "host", "away", str(server.port), str(file)])
-    sender = subprocess.Popen([str(SHIP / "send.py"), "host", "away", str(server.port)], stdin=subprocess.PIPE, text=True)
+    sender = subprocess.Popen(
+        [str(SHIP / "send.py"), "host", "away", str(server.port)], stdin=subprocess.PIPE, text=True
+    )
     writer = threading.Thread(target=lambda: sender.communicate(lines), daemon=True)
     writer.start()
     for part in (4, 2):

@@ -36,6 +36,7 @@ import shutil
 import subprocess
 import sys
 import tempfile
+from collections.abc import Iterator, Sequence
 
 from heskavo.bench import charts
 from heskavo.bench.readings import Row, measure, tell
@@ -65,16 +66,25 @@ INSTRUCTIONS = 4001
 TUNABLES = "glibc.malloc.hugetlb=1:glibc.malloc.mmap_max=0:glibc.malloc.trim_threshold=1000000000000"
 
 
-def built(crate, is_unproved):
+def built(crate: str, is_unproved: bool) -> str:
     """Returns the path of a program: the proved one if it exists, otherwise one that is built without proof."""
     program = str(builds.unproved(crate) if is_unproved else builds.find(crate))
     print(f"measured: {os.path.relpath(program, ROOT)}", file=sys.stderr)
     return program
 
 
-def c_program(work, name, with_dpdk=False, libraries=()):
+def c_program(work: str, name: str, with_dpdk: bool = False, libraries: Sequence[str] = ()) -> str | None:
     """Builds a program in C and returns its path, or None if gcc, DPDK or a library is not installed."""
-    command = ["gcc", "-O2", "-D_GNU_SOURCE", "-pthread", "-o", os.path.join(work, name), os.path.join(YARDSTICKS, name + ".c"), *libraries]
+    command = [
+        "gcc",
+        "-O2",
+        "-D_GNU_SOURCE",
+        "-pthread",
+        "-o",
+        os.path.join(work, name),
+        os.path.join(YARDSTICKS, name + ".c"),
+        *libraries,
+    ]
     if with_dpdk:
         flags = subprocess.run(["pkg-config", "--cflags", "libdpdk"], capture_output=True, text=True)
         if flags.returncode != 0:
@@ -87,20 +97,34 @@ def c_program(work, name, with_dpdk=False, libraries=()):
     return os.path.join(work, name)
 
 
-def linux_program(work):
+def linux_program(work: str) -> str | None:
     """Builds the jobs over Linux's own ring and returns their path, or None if gcc is not installed or bpf(2) is refused."""
     program = c_program(work, "linux_jobs")
-    return program if program and subprocess.run([program, "1", "1"], stdout=subprocess.DEVNULL, stderr=subprocess.DEVNULL, check=False).returncode == 0 else None
+    return (
+        program
+        if program
+        and subprocess.run(
+            [program, "1", "1"], stdout=subprocess.DEVNULL, stderr=subprocess.DEVNULL, check=False
+        ).returncode
+        == 0
+        else None
+    )
 
 
-def stream_hosts(work):
+def stream_hosts(work: str) -> list[str | None]:
     """Builds the stream hosts and returns the path of each that runs here: the one of known parts, and the one over Linux's own ring."""
     found = [c_program(work, "stream_host", True), c_program(work, "linux_stream", libraries=["-lbpf"])]
-    runs = lambda host: host and subprocess.run([host, "1"], stdin=subprocess.DEVNULL, stdout=subprocess.DEVNULL, stderr=subprocess.DEVNULL, check=False).returncode == 0
+    runs = (
+        lambda host: host
+        and subprocess.run(
+            [host, "1"], stdin=subprocess.DEVNULL, stdout=subprocess.DEVNULL, stderr=subprocess.DEVNULL, check=False
+        ).returncode
+        == 0
+    )
     return [host if runs(host) else None for host in found]
 
 
-def rust_program(work):
+def rust_program(work: str) -> str | None:
     """Builds the Rust queues and returns their path, or None if cargo or Debian's librust-crossbeam-queue-dev is not installed."""
     registry = "/usr/share/cargo/registry"
     found = glob.glob(os.path.join(registry, "crossbeam-queue-*"))
@@ -115,14 +139,16 @@ def rust_program(work):
         out.write(f'crossbeam-queue = {{ path = "{found[0]}" }}\n')
     with open(os.path.join(project, ".cargo", "config.toml"), "w") as out:
         out.write(f'[source.crates-io]\nreplace-with = "debian"\n\n[source.debian]\ndirectory = "{registry}"\n')
-    subprocess.run(["cargo", "build", "--quiet", "--release", "--offline"], cwd=project, stderr=subprocess.DEVNULL, check=True)
+    subprocess.run(
+        ["cargo", "build", "--quiet", "--release", "--offline"], cwd=project, stderr=subprocess.DEVNULL, check=True
+    )
     return os.path.join(project, "target", "release", "queues")
 
 
-def rows_of_rings(bench, kernel, queues):
+def rows_of_rings(bench: list[str], kernel: str | None, queues: str | None) -> Iterator[Row]:
     """Returns the rows of records through the ring of one thread, and through the shared ring with a consumer."""
 
-    def theirs(records, length, producers):
+    def theirs(records: int, length: int, producers: int) -> list[list[str]]:
         numbers = [str(records), str(length), str(producers)]
         kernels = [[kernel] + numbers] if kernel else []
         return kernels + ([[queues, kind] + numbers for kind in ("array", "deque")] if queues else [])
@@ -131,66 +157,144 @@ def rows_of_rings(bench, kernel, queues):
         for records in (100000, 1000000):
             for name in ("output_take", "reserve_submit_take"):
                 command = bench + ["time", name, str(length), str(records)]
-                yield Row(f"{name}, {length} bytes, {records} records", command, theirs(records, length, 0), records, "M/s")
+                yield Row(
+                    f"{name}, {length} bytes, {records} records", command, theirs(records, length, 0), records, "M/s"
+                )
     for records in (100000, 1000000):
         for producers in (1, 2, 4):
             command = bench + ["time", "shared", str(producers), str(records // producers)]
-            yield Row(f"shared ring, {producers} to 1, {records} records", command, theirs(records, 8, producers), records, "M/s")
+            yield Row(
+                f"shared ring, {producers} to 1, {records} records",
+                command,
+                theirs(records, 8, producers),
+                records,
+                "M/s",
+            )
 
 
-def rows_of_programs(bench, interpreter):
+def rows_of_programs(bench: list[str], interpreter: str | None) -> Iterator[Row]:
     """Returns the rows of loading and of the interpreter."""
     yardstick = lambda word: [[interpreter, word]] if interpreter else []
     yield Row("decode, shape and verify, 1000 units", bench + ["time", "load", "1000"], [], LOADS, "us", 1e3)
-    yield Row("decode, shape and verify, 4000 units", bench + ["time", "load", "4000"], yardstick("load"), LOADS, "us", 1e3)
+    yield Row(
+        "decode, shape and verify, 4000 units", bench + ["time", "load", "4000"], yardstick("load"), LOADS, "us", 1e3
+    )
     yield Row("decode, shape and verify, 4096 units that spill", bench + ["time", "spill"], [], LOADS, "us", 1e3)
     instructions = RUNS * INSTRUCTIONS
-    yield Row("interpreter, 4000 units of arithmetic", bench + ["time", "arithmetic"], yardstick("run"), instructions, "ns", 1, least=True)
-    yield Row("interpreter, 4000 units of the stack", bench + ["time", "stack"], yardstick("stack"), instructions, "ns", 1, least=True)
-    yield Row("interpreter, 4000 units of memory", bench + ["time", "memory"], yardstick("memory"), instructions, "ns", 1, least=True)
+    yield Row(
+        "interpreter, 4000 units of arithmetic",
+        bench + ["time", "arithmetic"],
+        yardstick("run"),
+        instructions,
+        "ns",
+        1,
+        least=True,
+    )
+    yield Row(
+        "interpreter, 4000 units of the stack",
+        bench + ["time", "stack"],
+        yardstick("stack"),
+        instructions,
+        "ns",
+        1,
+        least=True,
+    )
+    yield Row(
+        "interpreter, 4000 units of memory",
+        bench + ["time", "memory"],
+        yardstick("memory"),
+        instructions,
+        "ns",
+        1,
+        least=True,
+    )
 
 
-def rows_of_jobs(bench, jobs):
+def rows_of_jobs(bench: list[str], jobs: str | None) -> Iterator[Row]:
     """Returns the rows of whole jobs, timed from the start of the threads to their end on both sides."""
     for workers in WORKERS:
         numbers = [str(workers), str(JOBS)]
         theirs = [[jobs] + numbers] if jobs else []
-        yield Row(f"whole jobs, {workers} workers, {JOBS} jobs each", bench + ["time", "jobs"] + numbers, theirs, workers * JOBS, "M/s", jobs=True)
+        yield Row(
+            f"whole jobs, {workers} workers, {JOBS} jobs each",
+            bench + ["time", "jobs"] + numbers,
+            theirs,
+            workers * JOBS,
+            "M/s",
+            jobs=True,
+        )
 
 
-def rows_of_streams(bench):
+def rows_of_streams(bench: list[str]) -> Iterator[Row]:
     """Returns the rows of streams from memory: compared with whole jobs over the same program and contexts, and with room waited for, compared with streams."""
     for length in LENGTHS:
         for workers in WORKERS:
             timed = lambda word: bench + ["time", word, str(workers), str(EACH), str(length)]
-            yield Row(f"stream, {length} bytes, {workers} workers, beside run_jobs", timed("stream"), [timed("jobs")], workers * EACH, "M/s", jobs=True)
+            yield Row(
+                f"stream, {length} bytes, {workers} workers, beside run_jobs",
+                timed("stream"),
+                [timed("jobs")],
+                workers * EACH,
+                "M/s",
+                jobs=True,
+            )
     for workers in WORKERS:
         timed = lambda word: bench + ["time", word, str(workers), str(EACH)]
-        yield Row(f"waiting stream, {workers} workers, beside stream", timed("waiting_stream"), [timed("stream")], workers * EACH, "M/s", jobs=True)
+        yield Row(
+            f"waiting stream, {workers} workers, beside stream",
+            timed("waiting_stream"),
+            [timed("stream")],
+            workers * EACH,
+            "M/s",
+            jobs=True,
+        )
 
 
-def rows_of_stream_hosts(work, host):
+def rows_of_stream_hosts(work: str, host: str) -> Iterator[Row]:
     """Returns the rows of `rbhost stream`: its speed from a pipe to a file, and its delay, each compared with a host in C and with Linux's own ring."""
     contexts, records = os.path.join(work, "contexts"), os.path.join(work, "records")
     some = random.Random(1).randbytes(PIPED_LENGTH * PIPED // 100)
     with open(contexts, "wb") as file:
         for _ in range(100):
             file.write(some)
-    words = ["stream", "--ring", f"events:{RING}", "--program", os.path.join(YARDSTICKS, "filter.hex"), "--ctx", str(PIPED_LENGTH), "--in", "fixed", "--out", "events=-"]
+    words = [
+        "stream",
+        "--ring",
+        f"events:{RING}",
+        "--program",
+        os.path.join(YARDSTICKS, "filter.hex"),
+        "--ctx",
+        str(PIPED_LENGTH),
+        "--in",
+        "fixed",
+        "--out",
+        "events=-",
+    ]
     ours = lambda workers: [host, *words, "--workers", str(workers)]
     names = ("beside a C host", "beside Linux's ring")
-    hosts = [(name, it) for name, it in zip(names, stream_hosts(work)) if it] or [("no yardstick", None)]
+    hosts: list[tuple[str, str | None]] = [(name, it) for name, it in zip(names, stream_hosts(work)) if it] or [
+        ("no yardstick", None)
+    ]
     for name, it in hosts:
         for workers in WORKERS:
             theirs = [[it, str(workers)]] if it else []
-            yield Row(f"rbhost stream, {workers} workers, {name}", ours(workers), theirs, PIPED, "M/s", jobs=True, stdin=contexts, out=records)
+            yield Row(
+                f"rbhost stream, {workers} workers, {name}",
+                ours(workers),
+                theirs,
+                PIPED,
+                "M/s",
+                jobs=True,
+                stdin=contexts,
+                out=records,
+            )
     driver = c_program(work, "delay")
     for name, it in hosts if driver else ():
         timed = [driver, str(PERCENTILE), str(RATE), str(DELAYED)]
         yield Row(f"delay of rbhost stream, {name}", timed + ours(1), [timed + [it, "1"]] if it else [], 1, "us", 1e3)
 
 
-def engine_program(work, is_unproved):
+def engine_program(work: str, is_unproved: bool) -> str | None:
     """Builds the runs of an engine over the library for C, and returns the path, or None if gcc is not installed."""
     if shutil.which("gcc") is None:
         return None
@@ -201,7 +305,7 @@ def engine_program(work, is_unproved):
     return path
 
 
-def rows_of_engines(work, is_unproved, jobs, only):
+def rows_of_engines(work: str, is_unproved: bool, jobs: str | None, only: str) -> Iterator[Row]:
     """Returns the row of a program that runs in an engine of the library for C, whose record is taken after each run. The library is built only for this row."""
     name = f"engine for C, {JOBS} runs and takes"
     engine = engine_program(work, is_unproved) if only in name else None
@@ -212,14 +316,21 @@ def rows_of_engines(work, is_unproved, jobs, only):
         yield Row(name, [engine, program, str(JOBS)], theirs, JOBS, "M/s")
 
 
-def rows_beside_linux(bench, linux):
+def rows_beside_linux(bench: list[str], linux: str | None) -> Iterator[Row]:
     """Returns the rows that compare whole jobs with Linux's own ring, with what each lost; none if bpf(2) is refused."""
     for workers, jobs in BESIDE_LINUX if linux else ():
         numbers = [str(workers), str(jobs)]
-        yield Row(f"jobs beside Linux, {workers} workers, {jobs} jobs each", bench + ["time", "jobs"] + numbers, [[linux] + numbers], workers * jobs, "M/s", lost=True)
+        yield Row(
+            f"jobs beside Linux, {workers} workers, {jobs} jobs each",
+            bench + ["time", "jobs"] + numbers,
+            [[linux] + numbers],
+            workers * jobs,
+            "M/s",
+            lost=True,
+        )
 
 
-def rows_of_commands(work, bench, host):
+def rows_of_commands(work: str, bench: list[str], host: str) -> Iterator[Row]:
     """Returns the rows of whole commands, each a process timed from start to end: `feed` and `tape` compared with `cat`, and `run`."""
     payloads, tape = os.path.join(work, "payloads"), os.path.join(work, "tape")
     with open(payloads, "wb") as out:
@@ -227,15 +338,21 @@ def rows_of_commands(work, bench, host):
     with open(payloads, "rb") as read, open(tape, "wb") as out:
         subprocess.run([host, "feed", "--size", "65536"], stdin=read, stdout=out, stderr=subprocess.DEVNULL, check=True)
     for command, stdin in (("feed", payloads), ("tape", tape)):
-        megabytes = os.path.getsize(stdin) / 1e6
-        yield Row(f"{command} of payloads of 64 bytes, beside cat", [host, command, "--size", "65536"], [["cat"]], megabytes * 1e6, "MB/s", stdin=stdin)
+        yield Row(
+            f"{command} of payloads of 64 bytes, beside cat",
+            [host, command, "--size", "65536"],
+            [["cat"]],
+            os.path.getsize(stdin),
+            "MB/s",
+            stdin=stdin,
+        )
     text = os.path.join(ROOT, "examples", "submit_42.hex")
     for workers in WORKERS:
-        command = [host, "run", "--workers", str(workers), "--jobs", str(JOBS), "--size", "1048576"]
-        yield Row(f"rbhost run, {workers} workers, {JOBS} jobs each", command, [], workers * JOBS, "M/s", stdin=text)
+        words = [host, "run", "--workers", str(workers), "--jobs", str(JOBS), "--size", "1048576"]
+        yield Row(f"rbhost run, {workers} workers, {JOBS} jobs each", words, [], workers * JOBS, "M/s", stdin=text)
 
 
-def draw(table, folder):
+def draw(table: str, folder: str | pathlib.Path) -> None:
     """Draws the charts of a table into a folder."""
     rows = charts.rows_in(table)
     for name, text in (("ratios.svg", charts.ratios(rows)), ("jobs.svg", charts.jobs(rows))):
@@ -243,7 +360,7 @@ def draw(table, folder):
         print(f"drew {pathlib.Path(folder, name)} of {len(rows)} rows", flush=True)
 
 
-def run_ahead():
+def run_ahead() -> None:
     """Runs this script and what it starts before other processes: by their priority, and until it ends by that of the session, if Linux schedules sessions."""
     os.nice(-20)
     session = pathlib.Path("/proc/self/autogroup")
@@ -259,7 +376,9 @@ def add_arguments(parser: argparse.ArgumentParser) -> None:
     parser.add_argument("--only", metavar="WORD", default="", help="measure only the rows whose name contains WORD")
     parser.add_argument("--turns", metavar="N", type=int, default=5, help="how often each program runs (5)")
     parser.add_argument("--svg", metavar="FOLDER", type=pathlib.Path, help="draw the table into FOLDER")
-    parser.add_argument("--table", metavar="FILE", type=pathlib.Path, help="draw the table in FILE, and measure nothing")
+    parser.add_argument(
+        "--table", metavar="FILE", type=pathlib.Path, help="draw the table in FILE, and measure nothing"
+    )
 
 
 def run(asked: argparse.Namespace) -> int:
@@ -273,7 +392,11 @@ def run(asked: argparse.Namespace) -> int:
     bench, host = [built("rb_trials", asked.unproved), "bench"], built("rbhost", asked.unproved)
     with tempfile.TemporaryDirectory() as work:
         kernel, queues = c_program(work, "kernel_ring"), rust_program(work)
-        interpreter, jobs, linux = c_program(work, "interpreter", True), c_program(work, "jobs", True), linux_program(work)
+        interpreter, jobs, linux = (
+            c_program(work, "interpreter", True),
+            c_program(work, "jobs", True),
+            linux_program(work),
+        )
         rows = [
             *rows_of_rings(bench, kernel, queues),
             *rows_of_programs(bench, interpreter),
@@ -286,7 +409,9 @@ def run(asked: argparse.Namespace) -> int:
         ]
         if asked.ahead:
             run_ahead()
-        print(f"{'what':48} {'unit':5} {'here: median (spread)':28} {'yardstick':28} {'ratio':>10} {'left out':>8} {'peak':>8}")
+        print(
+            f"{'what':48} {'unit':5} {'here: median (spread)':28} {'yardstick':28} {'ratio':>10} {'left out':>8} {'peak':>8}"
+        )
         for row in rows:
             if asked.only in row.name:
                 lines.append(tell(row, *measure(row, asked.turns)))

@@ -35,7 +35,9 @@ class State:
     def joined(self, other: "State") -> "State":
         """Returns what both states know."""
         registers = [one if one == another else None for one, another in zip(self.registers, other.registers)]
-        return State(registers, {place: value for place, value in self.stack.items() if other.stack.get(place) == value})
+        return State(
+            registers, {place: value for place, value in self.stack.items() if other.stack.get(place) == value}
+        )
 
 
 def moved(value: Value | None, by: Value | None, sign: int) -> Value | None:
@@ -66,7 +68,9 @@ def store(state: State, insn: bytes) -> None:
     begin, width = pointer.number + struct.unpack_from("<h", insn, 2)[0], WIDTHS[insn[0] & 0x18]
     for place in [place for place in state.stack if place < begin + width and begin < place + 8]:
         del state.stack[place]
-    value = state.registers[insn[1] >> 4] if insn[0] & 7 == STX else Value("number", struct.unpack_from("<i", insn, 4)[0])
+    value = (
+        state.registers[insn[1] >> 4] if insn[0] & 7 == STX else Value("number", struct.unpack_from("<i", insn, 4)[0])
+    )
     if width == 8 and begin % 8 == 0 and value:
         state.stack[begin] = value
 
@@ -90,7 +94,13 @@ def step(state: State, insn: bytes) -> int:
         state.registers[insn[1] & 15] = Value("number", number) if insn[1] >> 4 == 0 else None
     elif opcode == CALL:
         pointer, length = state.registers[2], state.registers[3]
-        if struct.unpack_from("<i", insn, 4)[0] == OUTPUT and pointer and length and pointer.kind == "context" and length.kind == "number":
+        if (
+            struct.unpack_from("<i", insn, 4)[0] == OUTPUT
+            and pointer
+            and length
+            and pointer.kind == "context"
+            and length.kind == "number"
+        ):
             read = pointer.number + length.number
         state.registers[:6] = [None] * 6
     return read

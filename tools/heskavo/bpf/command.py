@@ -87,7 +87,7 @@ def printed(source: pathlib.Path, level: str, name: str | None, asks_arguments: 
             return arguments(file, code) + "\n"
     except (struct.error, IndexError, KeyError, ValueError, MemoryError):
         raise Refusal("its bytes are no whole object file") from None
-    lines = (" ".join(insn[at:at + UNIT].hex() for at in range(0, len(insn), UNIT)) for _, insn in instructions(code))
+    lines = (" ".join(insn[at : at + UNIT].hex() for at in range(0, len(insn), UNIT)) for _, insn in instructions(code))
     return "".join(line + "\n" for line in lines)
 
 

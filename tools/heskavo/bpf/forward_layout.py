@@ -26,8 +26,10 @@ class Loop(Refusal):
     """A program jumps back to an instruction from which the jump is reached again."""
 
     def __init__(self, unit: int, target: int) -> None:
-        super().__init__(f"a jump back to unit {target} closes a loop, and programs of this host have none: unroll it "
-                         "(`#pragma unroll`, with a constant number of rounds)")
+        super().__init__(
+            f"a jump back to unit {target} closes a loop, and programs of this host have none: unroll it "
+            "(`#pragma unroll`, with a constant number of rounds)"
+        )
         self.unit = unit
 
 
@@ -44,10 +46,10 @@ def blocks_of(code: bytes) -> dict[int, Block] | None:
         last = max(unit for unit in range(first, after) if unit in insns)
         jump = jumps.get(last)
         if jump and not jump.is_conditional:
-            found[first] = Block(code[first * UNIT:last * UNIT], None, jump.target)
+            found[first] = Block(code[first * UNIT : last * UNIT], None, jump.target)
         else:
             follows = None if insns[last][0] == EXIT else after
-            found[first] = Block(code[first * UNIT:after * UNIT], jump.target if jump else None, follows)
+            found[first] = Block(code[first * UNIT : after * UNIT], jump.target if jump else None, follows)
     return found if all(block.after is None or block.after in found for block in found.values()) else None
 
 
@@ -76,7 +78,9 @@ def topological(blocks: dict[int, Block], ends: dict[int, int]) -> list[int]:
 
 def placed(blocks: dict[int, Block], order: list[int]) -> bytes:
     """Returns the program of these blocks in this order, with a `goto` if a block is not placed right before the one that follows it."""
-    needs_goto = {first: blocks[first].after not in (None, following) for first, following in zip(order, [*order[1:], -1])}
+    needs_goto = {
+        first: blocks[first].after not in (None, following) for first, following in zip(order, [*order[1:], -1])
+    }
     begins, at = {}, 0
     for first in order:
         begins[first] = at

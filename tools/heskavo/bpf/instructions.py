@@ -26,7 +26,7 @@ def instructions(code: bytes) -> Iterator[tuple[int, bytes]]:
     at = 0
     while at < len(code):
         length = 2 * UNIT if code[at] == WIDE else UNIT
-        yield at // UNIT, code[at:at + length]
+        yield at // UNIT, code[at : at + length]
         at += length
 
 

@@ -17,7 +17,10 @@ def function_of(file: ObjectFile, name: str | None) -> Symbol:
     if not functions:
         raise Refusal("there is no section of code")
     if name is None and len(functions) > 1:
-        raise Refusal("there are several programs, of which --program NAME takes one: " + ", ".join(each.name for each in functions))
+        raise Refusal(
+            "there are several programs, of which --program NAME takes one: "
+            + ", ".join(each.name for each in functions)
+        )
     for each in functions:
         if name in (None, each.name):
             return each
@@ -38,7 +41,7 @@ def ring_number(file: ObjectFile, symbol: Symbol, at: int, unit: int) -> int:
 
 def linked(file: ObjectFile, function: Symbol) -> bytes:
     """Returns the bytes of a function, in which each map is named by its ring's number."""
-    code = bytearray(file.sections[function.section].bytes[function.at:function.at + function.length])
+    code = bytearray(file.sections[function.section].bytes[function.at : function.at + function.length])
     for offset, symbol in file.relocations(function.section):
         at, unit = offset - function.at, (offset - function.at) // UNIT
         if not 0 <= at < len(code):
@@ -47,7 +50,10 @@ def linked(file: ObjectFile, function: Symbol) -> bytes:
             raise Refusal(f"it calls the function {symbol.name}, which nothing links: {INLINED}", unit)
         section = file.section_name(symbol.section)
         if section != MAPS:
-            raise Refusal(f"it names {symbol.name}, which is data{f' of the section {section}' if section else ''} or a function that nothing links", unit)
+            raise Refusal(
+                f"it names {symbol.name}, which is data{f' of the section {section}' if section else ''} or a function that nothing links",
+                unit,
+            )
         number = ring_number(file, symbol, symbol.at + struct.unpack_from("<i", code, at + 4)[0], unit)
         code[at + 1] = code[at + 1] & 15 | MAP_BY_INDEX << 4
         struct.pack_into("<i", code, at + 4, number)
@@ -57,8 +63,11 @@ def linked(file: ObjectFile, function: Symbol) -> bytes:
 def refuse_what_no_layout_mends(file: ObjectFile, function: Symbol, code: bytes) -> None:
     """Raises Refusal if a loader would have to fit the program to a kernel, or if it calls a function of its file."""
     for each in file.core_relocations(function):
-        raise Refusal(f"it has the CO-RE relocation {each.kind} of {each.subject}, which a loader resolves against the running kernel's types: "
-                      "a context of this host is plain bytes, so read it without bpf_core_read and preserve_access_index", (each.at - function.at) // UNIT)
+        raise Refusal(
+            f"it has the CO-RE relocation {each.kind} of {each.subject}, which a loader resolves against the running kernel's types: "
+            "a context of this host is plain bytes, so read it without bpf_core_read and preserve_access_index",
+            (each.at - function.at) // UNIT,
+        )
     for unit, insn in instructions(code):
         if insn[0] == CALL and insn[1] >> 4 == LOCAL_CALL:
             raise Refusal(f"it calls a function of this file: {INLINED}", unit)

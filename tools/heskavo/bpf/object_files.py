@@ -54,9 +54,11 @@ class ObjectFile:
         table = struct.unpack_from("<Q", elf, 40)[0]
         size, number, names = struct.unpack_from("<HHH", elf, 58)
         heads = [struct.unpack_from("<IIQQQQII", elf, table + k * size) for k in range(number)]
-        texts = elf[heads[names][4]:]
-        self.sections = [Section(name_at(texts, name), kind, flags, link, about, elf[place:place + length])
-                         for name, kind, flags, _, place, length, link, about in heads]
+        texts = elf[heads[names][4] :]
+        self.sections = [
+            Section(name_at(texts, name), kind, flags, link, about, elf[place : place + length])
+            for name, kind, flags, _, place, length, link, about in heads
+        ]
         self.symbols = [symbol for part in self.sections if part.kind == SHT_SYMTAB for symbol in self.symbols_of(part)]
         parts = {part.name: part.bytes for part in self.sections}
         self.types = Types(parts[".BTF"]) if ".BTF" in parts else None
@@ -74,8 +76,14 @@ class ObjectFile:
 
     def functions(self) -> list[Symbol]:
         """Returns the functions that are visible to other files, each in a code section."""
-        code = [number for number, part in enumerate(self.sections) if part.kind == SHT_PROGBITS and part.flags & SHF_EXECINSTR]
-        return [symbol for symbol in self.symbols if symbol.kind == STT_FUNC and symbol.is_global and symbol.section in code]
+        code = [
+            number
+            for number, part in enumerate(self.sections)
+            if part.kind == SHT_PROGBITS and part.flags & SHF_EXECINSTR
+        ]
+        return [
+            symbol for symbol in self.symbols if symbol.kind == STT_FUNC and symbol.is_global and symbol.section in code
+        ]
 
     def relocations(self, section: int) -> Iterator[tuple[int, Symbol]]:
         """Yields each offset of a section at which a linker inserts a symbol, with the symbol."""
@@ -87,8 +95,13 @@ class ObjectFile:
     def maps(self) -> list[Map]:
         """Returns the maps in the order of their section."""
         known = dict(self.types.maps()) if self.types else {}
-        found = [symbol for symbol in self.symbols if symbol.kind == STT_OBJECT and self.section_name(symbol.section) == MAPS]
-        return [Map(symbol.name, symbol.at, *known.get(symbol.name, (None, None))) for symbol in sorted(found, key=lambda symbol: symbol.at)]
+        found = [
+            symbol for symbol in self.symbols if symbol.kind == STT_OBJECT and self.section_name(symbol.section) == MAPS
+        ]
+        return [
+            Map(symbol.name, symbol.at, *known.get(symbol.name, (None, None)))
+            for symbol in sorted(found, key=lambda symbol: symbol.at)
+        ]
 
     def rings(self) -> list[Map]:
         """Returns the ring buffer maps, by the numbers of their rings."""

@@ -7,19 +7,42 @@ from collections.abc import Iterator
 PTR, ARRAY, STRUCT, UNION, ENUM, VAR, DATASEC, ENUM64 = 2, 3, 4, 5, 6, 14, 15, 19
 MODIFIERS = {8, 9, 10, 11, 18}
 # The number of bytes after the head of a type: those of the kind itself, and those of each member.
-EXTRA = {1: (4, 0), ARRAY: (12, 0), STRUCT: (0, 12), UNION: (0, 12), ENUM: (0, 8), 13: (0, 8), VAR: (4, 0), DATASEC: (0, 12), 17: (4, 0), ENUM64: (0, 12)}
+EXTRA = {
+    1: (4, 0),
+    ARRAY: (12, 0),
+    STRUCT: (0, 12),
+    UNION: (0, 12),
+    ENUM: (0, 8),
+    13: (0, 8),
+    VAR: (4, 0),
+    DATASEC: (0, 12),
+    17: (4, 0),
+    ENUM64: (0, 12),
+}
 KEYWORDS = {STRUCT: "struct ", UNION: "union ", ENUM: "enum ", ENUM64: "enum "}
 MAPS = ".maps"
 
 # Kinds of CO-RE relocations, by their numbers (llvm_reloc.rst).
-CORE_KINDS = ("BPF_CORE_FIELD_BYTE_OFFSET", "BPF_CORE_FIELD_BYTE_SIZE", "BPF_CORE_FIELD_EXISTS", "BPF_CORE_FIELD_SIGNED", "BPF_CORE_FIELD_LSHIFT_U64",
-              "BPF_CORE_FIELD_RSHIFT_U64", "BPF_CORE_TYPE_ID_LOCAL", "BPF_CORE_TYPE_ID_TARGET", "BPF_CORE_TYPE_EXISTS", "BPF_CORE_TYPE_SIZE",
-              "BPF_CORE_ENUMVAL_EXISTS", "BPF_CORE_ENUMVAL_VALUE", "BPF_CORE_TYPE_MATCHES")
+CORE_KINDS = (
+    "BPF_CORE_FIELD_BYTE_OFFSET",
+    "BPF_CORE_FIELD_BYTE_SIZE",
+    "BPF_CORE_FIELD_EXISTS",
+    "BPF_CORE_FIELD_SIGNED",
+    "BPF_CORE_FIELD_LSHIFT_U64",
+    "BPF_CORE_FIELD_RSHIFT_U64",
+    "BPF_CORE_TYPE_ID_LOCAL",
+    "BPF_CORE_TYPE_ID_TARGET",
+    "BPF_CORE_TYPE_EXISTS",
+    "BPF_CORE_TYPE_SIZE",
+    "BPF_CORE_ENUMVAL_EXISTS",
+    "BPF_CORE_ENUMVAL_VALUE",
+    "BPF_CORE_TYPE_MATCHES",
+)
 
 
 def name_at(texts: bytes, at: int) -> str:
     """Returns a name of a table of names."""
-    return texts[at:texts.index(b"\0", at)].decode()
+    return texts[at : texts.index(b"\0", at)].decode()
 
 
 class Type(typing.NamedTuple):
@@ -36,14 +59,14 @@ class Types:
 
     def __init__(self, section: bytes) -> None:
         head, types, length, texts = struct.unpack_from("<IIII", section, 4)
-        self.texts = section[head + texts:]
+        self.texts = section[head + texts :]
         self.types = [Type("void", 0, 0, b"")]
         at, end = head + types, head + types + length
         while at < end:
             name, info, target = struct.unpack_from("<III", section, at)
             kind, count = info >> 24 & 31, info & 0xFFFF
             fixed, each = EXTRA.get(kind, (0, 0))
-            rest = section[at + 12:at + 12 + fixed + each * count]
+            rest = section[at + 12 : at + 12 + fixed + each * count]
             self.types.append(Type(self.text(name), kind, target, rest))
             at += 12 + len(rest)
 
@@ -130,7 +153,7 @@ class Extension:
             name, count = struct.unpack_from("<II", self.section, at)
             at += 8
             if self.types.text(name) == code:
-                yield from (self.section[at + row * number:at + row * (number + 1)] for number in range(count))
+                yield from (self.section[at + row * number : at + row * (number + 1)] for number in range(count))
             at += row * count
 
     def lines(self, code: str) -> Iterator[Line]:

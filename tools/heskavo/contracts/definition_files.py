@@ -1,9 +1,12 @@
 """The definitions that contracts cite: the files crates/*/specs/*.antt, what each defines, the number of lines, and the names that it uses."""
+from __future__ import annotations
+
 import collections
 import pathlib
 import re
 
 from heskavo.repository import ROOT
+
 CRATES = ROOT / "crates"
 
 BEGINS = re.compile(r"\s*(?:pub (?:record|data)|(?:abbrev|unfoldable)(?: pub)?|(?:record|data)(?= \S+ .*: Type)) (\S+)")
@@ -15,7 +18,7 @@ Origin = collections.namedtuple("Origin", "kind place name")
 Definition = collections.namedtuple("Definition", "name is_public lines text")
 
 
-def origin_of(path, name):
+def origin_of(path: str, name: str) -> Origin | None:
     """Returns the origin of `name` of the module with this path, or None for what a type has of its own, such as its coding."""
     parts = path.split(".")
     if parts[0] != "Rattle" or parts[1] == "std" or not (CRATES / parts[1]).is_dir():
@@ -31,7 +34,7 @@ def origin_of(path, name):
     return None
 
 
-def imports_of(lines):
+def imports_of(lines: list[str]) -> dict[str, Origin]:
     """Returns the names that `use` lines import, each with its origin."""
     names = {}
     for line in lines:
@@ -44,22 +47,24 @@ def imports_of(lines):
                 names[words[-1]] = origin_of(found["path"], words[0])
         if found["alias"]:
             origin = origin_of(found["path"], "")
-            names[found["alias"]] = origin._replace(kind="module") if origin and (origin.kind, origin.name) == ("file", "") else origin
+            names[found["alias"]] = (
+                origin._replace(kind="module") if origin and (origin.kind, origin.name) == ("file", "") else origin
+            )
     return {name: origin for name, origin in names.items() if origin}
 
 
-def ghost_uses(text):
+def ghost_uses(text: str) -> list[str]:
     """Returns the lines of a source that import names for its clauses, each on one line."""
     return [re.sub(r"\s+", " ", line) for line in re.findall(r"ghost use [^;]*;", text)]
 
 
-def plain_text(text):
+def plain_text(text: str) -> str:
     """Returns a text without the names of fields at their declarations and assignments."""
     plain = re.sub(r"(?m)^\s*pub [^\s:]+ :", "", text)
     return re.sub(r"([{;]|record \S+ \{)\s*[\w']+ = ", r"\1 ", plain)
 
 
-def named_in(text, names):
+def named_in(text: str, names: dict[str, Origin]) -> set[str]:
     """Returns the names that a text uses. A name with argument places, such as ◌≡◌, is used if its signs occur."""
     plain = plain_text(text)
     words = {word.split(".")[0] for word in WORD.findall(plain)}
@@ -74,7 +79,7 @@ def named_in(text, names):
     return found
 
 
-def origins_in(text, names):
+def origins_in(text: str, names: dict[str, Origin]) -> set[Origin]:
     """Returns the origins of the names that a text uses: for a name of a whole file the one after the dot, for a constructor its type."""
     found = set()
     for name in named_in(text, names):
@@ -87,7 +92,7 @@ def origins_in(text, names):
     return found
 
 
-def of_type(origin):
+def of_type(origin: Origin) -> Origin:
     """Returns the constructor's type instead of the constructor."""
     if origin.kind == "file":
         return origin._replace(name=definition_file(origin.place).constructors.get(origin.name, origin.name))
@@ -97,7 +102,7 @@ def of_type(origin):
 class DefinitionFile:
     """One file of definitions: its first comment, its definitions in order, and the origins of the names that it uses."""
 
-    def __init__(self, place):
+    def __init__(self, place: pathlib.Path) -> None:
         self.place = place
         lines = place.read_text().splitlines()
         self.imports = imports_of(lines)
@@ -107,8 +112,9 @@ class DefinitionFile:
                 break
             header.append(line[2:].strip())
         self.header = header
-        self.definitions = {}
-        name, is_public, body = None, False, []
+        self.definitions: dict[str, Definition] = {}
+        name, is_public = None, False
+        body: list[str] = []
         for line in [*lines, "abbrev end"]:
             begins = BEGINS.match(line)
             if begins or re.match(r"\s*(module _|use |infix|pub mod )", line):
@@ -125,14 +131,14 @@ class DefinitionFile:
                     self.constructors[row.split()[0]] = definition.name
 
     @property
-    def crate(self):
+    def crate(self) -> str:
         return self.place.relative_to(CRATES).parts[0]
 
     @property
-    def file(self):
+    def file(self) -> str:
         return self.place.relative_to(CRATES / self.crate / "specs").as_posix()
 
-    def used_by(self, name):
+    def used_by(self, name: str) -> set[Origin]:
         """Returns the origins of the names that this definition uses, including those of this file."""
         text = self.definitions[name].text
         own = {other: Origin("file", self.place, other) for other in self.definitions if other != name}
@@ -143,12 +149,14 @@ class DefinitionFile:
 _FILES = {}
 
 
-def definition_file(place):
+def definition_file(place: pathlib.Path) -> DefinitionFile:
     if place not in _FILES:
         _FILES[place] = DefinitionFile(place)
     return _FILES[place]
 
 
-def cited_files():
+def cited_files() -> list[DefinitionFile]:
     """Returns every file of definitions that public contracts may cite: those in `specs/` itself, except those that list modules."""
-    return [definition_file(place) for place in sorted(CRATES.glob("*/specs/*.antt")) if place.stem not in ("Lib", "inner")]
+    return [
+        definition_file(place) for place in sorted(CRATES.glob("*/specs/*.antt")) if place.stem not in ("Lib", "inner")
+    ]

@@ -28,10 +28,17 @@ COLUMNS = 120
 HEADING = re.compile(r"#+ ")
 LIST = re.compile(r"- `(\w+)`: `\w+\.antt`")
 TESTS = ("_rows", "_tests")
-STANDARDS = {"ringbuf.rst": "ringbuf.rst", "verifier.rst": "verifier.rst", "bpf-helpers(7)": "helpers", "RFC 9669": "RFC", "RFC 8259": "RFC 8259", "LLVM": "LLVM"}
+STANDARDS = {
+    "ringbuf.rst": "ringbuf.rst",
+    "verifier.rst": "verifier.rst",
+    "bpf-helpers(7)": "helpers",
+    "RFC 9669": "RFC",
+    "RFC 8259": "RFC 8259",
+    "LLVM": "LLVM",
+}
 
 
-def sentence_of(file):
+def sentence_of(file: DefinitionFile) -> str:
     """Returns the summary of a file: the first sentence of its first comment."""
     text = " ".join(file.header[: file.header.index("")] if "" in file.header else file.header).strip()
     first, *others = re.split(r"(?<=\.) (?=[A-Z`'\"])", text)
@@ -41,22 +48,26 @@ def sentence_of(file):
     return sentence
 
 
-def standards_of(file):
+def standards_of(file: DefinitionFile) -> str:
     """Returns the public standards that a file names."""
     text = (CRATES / file.crate / "specs" / file.file).read_text()
     named = [short for name, short in STANDARDS.items() if name in text]
     return f" ({', '.join(named)})" if named else ""
 
 
-def list_of(crate, names, files):
+def list_of(crate: str, names: list[str], files: Files) -> str:
     """Returns a crate's list, as wrapped lines."""
     shown = ", ".join(f"`{name}`{standards_of(files[crate, name])}" for name in names if (crate, name) in files)
-    return "\n".join(textwrap.wrap(f"- `{crate}`: {shown}.", COLUMNS, subsequent_indent="  ", break_long_words=False, break_on_hyphens=False))
+    return "\n".join(
+        textwrap.wrap(
+            f"- `{crate}`: {shown}.", COLUMNS, subsequent_indent="  ", break_long_words=False, break_on_hyphens=False
+        )
+    )
 
 
-def blocks_of(text):
+def blocks_of(text: str) -> list[str]:
     """Returns the document's lines, with each list of a crate joined to one text with its continuation lines."""
-    blocks = []
+    blocks: list[str] = []
     for line in text.splitlines():
         if line.startswith("  ") and blocks and LIST.match(blocks[-1]):
             blocks[-1] += "\n" + line
@@ -65,13 +76,13 @@ def blocks_of(text):
     return blocks
 
 
-def names_in(block):
-    """Returns the crate and the files of a list, or None and no files if the block is not a list."""
+def names_in(block: str) -> tuple[str, list[str]]:
+    """Returns the crate and the files of a list, or nothing if the block is not a list."""
     found = LIST.match(block)
-    return (found[1], re.findall(r"`(\w+\.antt)`", block)) if found else (None, [])
+    return (found[1], re.findall(r"`(\w+\.antt)`", block)) if found else ("", [])
 
 
-def compared(blocks, files):
+def compared(blocks: list[str], files: Files) -> tuple[list[str], list[str]]:
     """Returns the document's lines with the lists that they should have, and the differences."""
     made, told, seen = [], [], set()
     for block in blocks:
@@ -89,12 +100,17 @@ def compared(blocks, files):
     return made, told
 
 
-def misquoted():
+def misquoted() -> list[str]:
     """Returns the lines that READ_THE_THEOREM.md quotes and that are in no file of definitions and in no type of entries."""
     files = [*CRATES.glob("*/specs/*.antt"), *CRATES.glob("rb_history/src/*.rt")]
     there = {line for place in files for line in place.read_text().splitlines()}
     quoted = re.findall(r"```text\n(.*?)```", QUOTING.read_text(), re.DOTALL)
-    return [f"{QUOTING.name} quotes a line that no file has\n  {line}" for text in quoted for line in text.splitlines() if line not in there]
+    return [
+        f"{QUOTING.name} quotes a line that no file has\n  {line}"
+        for text in quoted
+        for line in text.splitlines()
+        if line not in there
+    ]
 
 
 def print_summaries(blocks: list[str], files: Files) -> None:

@@ -76,7 +76,13 @@ def drawn() -> Iterator[str]:
 
 def named() -> Iterator[str]:
     """Yields files that are named in code spans and do not exist, and crates that the map omits."""
-    folders = [*ROOT.glob("crates/*/src"), *ROOT.glob("crates/*/specs"), *ROOT.glob("crates/*/proofs"), ROOT / "tools", ROOT / "examples"]
+    folders = [
+        *ROOT.glob("crates/*/src"),
+        *ROOT.glob("crates/*/specs"),
+        *ROOT.glob("crates/*/proofs"),
+        ROOT / "tools",
+        ROOT / "examples",
+    ]
     there = {path.name for folder in folders for path in folder.rglob("*")}
     for path in pages():
         for span in set(re.findall(r"`([\w./]*\w\.(?:rt|antt|py|c))`", path.read_text())):
@@ -103,5 +109,7 @@ def linked() -> Iterator[str]:
         for target, heading in set(re.findall(r"\]\((?!http)([^)#]*)(?:#([^)]*))?\)", path.read_text())):
             place = (path.parent / target) if target else path
             heads = re.findall(r"(?m)^#+ (.*)", place.read_text()) if heading and place.is_file() else []
-            if not place.exists() or (heading and heading not in [re.sub(r"[^\w -]", "", it.lower()).replace(" ", "-") for it in heads]):
+            if not place.exists() or (
+                heading and heading not in [re.sub(r"[^\w -]", "", it.lower()).replace(" ", "-") for it in heads]
+            ):
                 yield f"{path.name} links to {target}{'#' * bool(heading)}{heading}, which does not exist"

@@ -7,11 +7,12 @@ import argparse
 import sys
 
 from heskavo.repository import ROOT
+
 EXAMPLES = ROOT / "examples"
 ROWS = ROOT / "crates" / "rb_program_rows" / "stdin"
 
 
-def rows():
+def rows() -> str:
     """Returns the rows, with the text of each file after its name, and reports files whose name is missing."""
     lines = ROWS.read_text().split("\n")
     for file in sorted(EXAMPLES.rglob("*.hex")):

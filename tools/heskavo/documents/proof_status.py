@@ -71,7 +71,9 @@ class Entry:
             if part["code"] is not None:
                 calls += [part["code"]] if CALL.fullmatch(part["code"]) else []
             elif part["group"] is not None and calls:
-                found.append(Group(calls, [it for it in SPAN.findall(part["group"]) if NAME.fullmatch(it)], part.end() - 1))
+                found.append(
+                    Group(calls, [it for it in SPAN.findall(part["group"]) if NAME.fullmatch(it)], part.end() - 1)
+                )
                 calls = []
         return [*found, Group(calls, [], None)] if calls else found
 
@@ -121,7 +123,12 @@ class Section:
 
     def entry_of(self, call: Call) -> tuple[Entry, Group] | None:
         """Returns the last entry that lists the call, and the group there."""
-        found = [(entry, group) for entry in self.entries for group in entry.groups() if {call.path, call.name} & {*group.calls}]
+        found = [
+            (entry, group)
+            for entry in self.entries
+            for group in entry.groups()
+            if {call.path, call.name} & {*group.calls}
+        ]
         exact = [it for it in found if call.path in it[1].calls]
         return (exact or found)[-1] if found else None
 
@@ -129,7 +136,9 @@ class Section:
         """Returns the lines with the changed entries, and new ones for these calls after the last entry."""
         lines, at = [], 0
         for entry in self.entries:
-            lines += self.lines[at : entry.first] + (entry.lines() if entry.is_changed else self.lines[entry.first : entry.end])
+            lines += self.lines[at : entry.first] + (
+                entry.lines() if entry.is_changed else self.lines[entry.first : entry.end]
+            )
             at = entry.end
         rest = self.lines[at:]
         if added:
@@ -195,15 +204,24 @@ def stale(sections: list[Section]) -> Iterator[str]:
                 yield from (f"{place} names a call that does not exist: {name}" for name in gone)
                 if all(name in clauses for name in group.calls):
                     there = set().union(*(clauses[name] for name in group.calls))
-                    gone = [name for name in group.clauses if name not in there and name not in words and name not in libraries_of_crates()]
-                    yield from (f"{place} names a clause that {', '.join(group.calls)} does not have: {name}" for name in gone)
+                    gone = [
+                        name
+                        for name in group.clauses
+                        if name not in there and name not in words and name not in libraries_of_crates()
+                    ]
+                    yield from (
+                        f"{place} names a clause that {', '.join(group.calls)} does not have: {name}" for name in gone
+                    )
 
 
 def with_missing(sections: list[Section], told: list[str]) -> str:
     """Returns the document with what is missing, and tells what was missing."""
     added: dict[int, list[Call]] = {}
     for call, near in list(missing(sections)):
-        told.append(f"{DOCUMENT.name} does not name {call.crate}::{call.path}" + (f" ({', '.join(call.clauses)})" if call.clauses else ""))
+        told.append(
+            f"{DOCUMENT.name} does not name {call.crate}::{call.path}"
+            + (f" ({', '.join(call.clauses)})" if call.clauses else "")
+        )
         places = [(section, section.entry_of(call)) for section in near]
         listed = next((place for _, place in places if place is not None), None)
         if listed is not None and call.clauses:
@@ -225,7 +243,10 @@ def run(asked: argparse.Namespace) -> int:
     sections = sections_of(DOCUMENT.read_text())
     with_section = set().union(*(it.crates for it in sections))
     crates = {call.crate for call in public_calls()}
-    found = [*stale(sections), *(f"{DOCUMENT.name} has no section of {crate}" for crate in sorted(crates - with_section))]
+    found = [
+        *stale(sections),
+        *(f"{DOCUMENT.name} has no section of {crate}" for crate in sorted(crates - with_section)),
+    ]
     lacking: list[str] = []
     text = with_missing(sections, lacking)
     if asked.write:

@@ -89,7 +89,9 @@ class Trusted:
     def row(self, name: str) -> str:
         """Returns the row of the table."""
         size = self.size()
-        return f"| {name} | {self.clauses} | {self.definitions()} | {size.lines} | {size.characters} | {len(self.files)} |"
+        return (
+            f"| {name} | {self.clauses} | {self.definitions()} | {size.lines} | {size.characters} | {len(self.files)} |"
+        )
 
 
 def reached(begin: Iterable[Origin]) -> tuple[set[Origin], set[tuple[str, str]]]:

@@ -39,13 +39,17 @@ def run_all(times: Times) -> list[parts.Result]:
 def processor_time() -> str:
     """Returns the processor time of all parts so far."""
     used = os.times()
-    user, system = (f"{seconds // 60:.0f}m{seconds % 60:.0f}s" for seconds in (used.children_user, used.children_system))
+    user, system = (
+        f"{seconds // 60:.0f}m{seconds % 60:.0f}s" for seconds in (used.children_user, used.children_system)
+    )
     return f"{user} user, {system} system"
 
 
 def add_arguments(parser: argparse.ArgumentParser) -> None:
     """Adds the command."""
-    parser.add_argument("command", metavar="COMMAND", nargs=argparse.REMAINDER, help="run this instead of the gate's parts")
+    parser.add_argument(
+        "command", metavar="COMMAND", nargs=argparse.REMAINDER, help="run this instead of the gate's parts"
+    )
 
 
 def run(asked: argparse.Namespace) -> int:

@@ -51,7 +51,9 @@ def run(words: Sequence[str], times: Times | None = None, kept: Path | None = No
             if times:
                 times.read(line.rstrip("\n"))
 
-    process = subprocess.Popen(words, cwd=ROOT, stdout=subprocess.PIPE, stderr=subprocess.STDOUT, text=True, errors="replace")
+    process = subprocess.Popen(
+        words, cwd=ROOT, stdout=subprocess.PIPE, stderr=subprocess.STDOUT, text=True, errors="replace"
+    )
     reader = threading.Thread(target=pass_on, args=[process])
     reader.start()
     watch = Watch(process.pid)

@@ -95,7 +95,11 @@ def layout() -> tuple[bool, str]:
 
 def python() -> tuple[bool, str]:
     """Checks the types and the layout of the Python code, by those of Debian's packages mypy and black that are installed."""
-    results = [command(tool, *words)() for tool, *words in (("mypy",), ("black", "-q", "--check", "tools")) if shutil.which(tool)]
+    results = [
+        command(tool, *words)()
+        for tool, *words in (("mypy",), ("black", "-q", "--check", "tools"))
+        if shutil.which(tool)
+    ]
     return all(well for well, _ in results), "".join(said for _, said in results)
 
 

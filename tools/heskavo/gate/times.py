@@ -14,7 +14,7 @@ class Times:
     """The processor seconds of each part of each crate, the number of mutants that were tried, and what an earlier run had kept."""
 
     def __init__(self) -> None:
-        self.seconds: collections.Counter[tuple[str, str]] = collections.Counter()
+        self.seconds: dict[tuple[str, str], float] = collections.defaultdict(float)
         self.edits: collections.Counter[str] = collections.Counter()
         self.kept: list[str] = []
 

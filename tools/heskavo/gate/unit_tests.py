@@ -15,7 +15,14 @@ PACKAGE = "python3-pytest"
 def python_with_pytest() -> str | None:
     """Returns the path of a Python that has pytest, or None."""
     check = [*("-c", "import pytest")]
-    return next((it for it in PYTHONS if shutil.which(it) and subprocess.run([it, *check], capture_output=True, check=False).returncode == 0), None)
+    return next(
+        (
+            it
+            for it in PYTHONS
+            if shutil.which(it) and subprocess.run([it, *check], capture_output=True, check=False).returncode == 0
+        ),
+        None,
+    )
 
 
 @functools.cache
@@ -26,7 +33,9 @@ def python() -> str | None:
         print(f"there is no pytest: installing {PACKAGE}", file=sys.stderr, flush=True)
         environment = {**os.environ, "DEBIAN_FRONTEND": "noninteractive"}
         for words in (["update", "-q"], ["install", "-q", "-y", "--no-install-recommends", PACKAGE]):
-            subprocess.run(["apt-get", *words], env=environment, stdout=subprocess.DEVNULL, stdin=subprocess.DEVNULL, check=False)
+            subprocess.run(
+                ["apt-get", *words], env=environment, stdout=subprocess.DEVNULL, stdin=subprocess.DEVNULL, check=False
+            )
         found = python_with_pytest()
     return found
 

@@ -17,11 +17,10 @@ has the host over Linux.
 """
 import argparse
 
-from heskavo.linux import comparison
-from heskavo.linux import object_comparison
+from heskavo.command_line import UsageError
+from heskavo.linux import comparison, object_comparison
 from heskavo.linux.heskavo_host import HeskavoHost
 from heskavo.linux.linux_host import LinuxHost, Skipped
-from heskavo.command_line import UsageError
 
 
 def add_arguments(parser: argparse.ArgumentParser) -> None:
@@ -44,8 +43,8 @@ def run(asked: argparse.Namespace) -> int:
     try:
         linux = LinuxHost()
         if asked.objects:
-            return object_comparison.compare(heskavo, *[*numbers, *[1][len(numbers):]])
-        return comparison.compare(linux, heskavo, *[*numbers, *[1000, 1][len(numbers):]])
+            return object_comparison.compare(heskavo, *[*numbers, *[1][len(numbers) :]])
+        return comparison.compare(linux, heskavo, *[*numbers, *[1000, 1][len(numbers) :]])
     except Skipped as skipped:
         print(f"skipped: {skipped}")
         return 0

@@ -17,17 +17,21 @@ def graph(draw: random.Random, has_loop: bool = False) -> bytes:
         wide = bytes([WIDE, 0, 0, 0, *struct.pack("<i", block), *bytes(8)])
         bodies.append(bytes([MOVE, 0, 0, 0, *struct.pack("<i", block)]) + (wide if draw.random() < 0.3 else b""))
         later = range(block + 1, count)
-        edges.append((draw.choice(later) if later and draw.random() < 0.6 else None, draw.choice(later) if later else None))
+        edges.append(
+            (draw.choice(later) if later and draw.random() < 0.6 else None, draw.choice(later) if later else None)
+        )
     if has_loop:
         walk = [0]
         while steps := [it for it in edges[walk[-1]] if it is not None]:
             walk.append(draw.choice(steps))
         last = draw.randrange(len(walk))
-        edges[walk[last]] = (draw.choice(walk[:last + 1]), edges[walk[last]][1])
+        edges[walk[last]] = (draw.choice(walk[: last + 1]), edges[walk[last]][1])
     return assembled(draw, bodies, edges, [0, *draw.sample(range(1, count), count - 1)])
 
 
-def assembled(draw: random.Random, bodies: list[bytes], edges: list[tuple[int | None, int | None]], places: list[int]) -> bytes:
+def assembled(
+    draw: random.Random, bodies: list[bytes], edges: list[tuple[int | None, int | None]], places: list[int]
+) -> bytes:
     """Returns the program of these blocks in this order. A block ends with a `goto` if its successor is not placed right after it, and sometimes if it is."""
     parts: dict[int, bytes] = {}
     begins: dict[int | None, int] = {}
@@ -92,11 +96,16 @@ def c_source(draw: random.Random) -> str:
     for step in range(count):
         later = [f"l{draw.randrange(step + 1, count + 1)}" for _ in range(3)]
         lines.append(f"l{step}:;")
-        lines.append("    " + draw.choice((
-            f"if (__builtin_expect(a {draw.choice('<>&')} {draw.randrange(100)}, {draw.randrange(2)})) {{ b += {draw.randrange(99)}; goto {later[0]}; }}",
-            f"if (b == {draw.randrange(50)}) {{ bpf_ringbuf_output(&ring, &b, 8, 0); if (a == {draw.randrange(30)}) goto {later[0]}; a ^= b * 7; }} else a += b;",
-            f"switch (a & 7) {{ case 0: b += 3; goto {later[0]}; case 1: case 5: b ^= a; break; case 2: a = b * 5; goto {later[1]}; default: a -= 7; }}",
-            f"e = bpf_ringbuf_reserve(&ring, {8 * draw.randrange(1, 9)}, 0); if (!e) goto {later[0]}; *e = a; "
-            f"if (b > {draw.randrange(9)}) {{ bpf_ringbuf_submit(e, 0); goto {later[1]}; }} bpf_ringbuf_discard(e, 0);",
-        )))
+        lines.append(
+            "    "
+            + draw.choice(
+                (
+                    f"if (__builtin_expect(a {draw.choice('<>&')} {draw.randrange(100)}, {draw.randrange(2)})) {{ b += {draw.randrange(99)}; goto {later[0]}; }}",
+                    f"if (b == {draw.randrange(50)}) {{ bpf_ringbuf_output(&ring, &b, 8, 0); if (a == {draw.randrange(30)}) goto {later[0]}; a ^= b * 7; }} else a += b;",
+                    f"switch (a & 7) {{ case 0: b += 3; goto {later[0]}; case 1: case 5: b ^= a; break; case 2: a = b * 5; goto {later[1]}; default: a -= 7; }}",
+                    f"e = bpf_ringbuf_reserve(&ring, {8 * draw.randrange(1, 9)}, 0); if (!e) goto {later[0]}; *e = a; "
+                    f"if (b > {draw.randrange(9)}) {{ bpf_ringbuf_submit(e, 0); goto {later[1]}; }} bpf_ringbuf_discard(e, 0);",
+                )
+            )
+        )
     return "\n".join([*lines, f"l{count}:", "    return a + b;", "}", ""])

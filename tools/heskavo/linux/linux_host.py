@@ -5,6 +5,7 @@ import re
 import shutil
 import subprocess
 import tempfile
+from collections.abc import Sequence
 
 from heskavo.repository import TOOLS
 
@@ -19,7 +20,7 @@ class Skipped(Exception):
     """The reason why nothing can be compared here."""
 
 
-def built(name, folder, libraries=()):
+def built(name: str, folder: str, libraries: Sequence[str] = ()):
     """Builds a program of tools/linux in a folder, and returns its path."""
     if shutil.which("gcc") is None:
         raise Skipped("gcc is not installed")
@@ -34,19 +35,23 @@ def built(name, folder, libraries=()):
 class LinuxHost:
     """A built host, in its own folder, which is removed with it."""
 
-    def __init__(self):
+    def __init__(self) -> None:
         release = os.uname().release
         if tuple(map(int, re.findall(r"\d+", release)[:2])) < OLDEST:
-            raise Skipped(f"Linux {release} is older than {'.'.join(map(str, OLDEST))}, which has all instructions of RFC 9669")
+            raise Skipped(
+                f"Linux {release} is older than {'.'.join(map(str, OLDEST))}, which has all instructions of RFC 9669"
+            )
         self.folder = tempfile.TemporaryDirectory()
         self.program = built("host", self.folder.name)
         told = self.answers(["ring 4096", f"program {RETURN_7}", "run 0 00"])
         if told[2] != "result 7":
             raise Skipped(f"Linux runs no program of the type BPF_PROG_TYPE_SYSCALL: {told[1]}")
 
-    def answers(self, lines):
+    def answers(self, lines: list[str]) -> list[str]:
         """Returns the answers of one process to these lines, line by line."""
-        run = subprocess.run([self.program], input="".join(line + "\n" for line in lines), check=False, capture_output=True, text=True)
+        run = subprocess.run(
+            [self.program], input="".join(line + "\n" for line in lines), check=False, capture_output=True, text=True
+        )
         if run.returncode == 3:
             raise Skipped(run.stderr.strip())
         if run.returncode:

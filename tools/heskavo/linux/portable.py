@@ -6,11 +6,17 @@ from heskavo.rows.program_code import decoded, distance, goes_on, signed
 FAR = 1 << 29
 
 # What this host refuses and Linux may accept: the layer, and the kind or the rule.
-HERE_ALONE = ("decode LeftOut", "decode BadOpcode", "decode UnusedField", "decode TooLong", "shape Backward",
-              *(f"verify V{rule}" for rule in (1, 3, 4, 5, 6, 7, 8, 9, 11, 12, 13, 15)))
+HERE_ALONE = (
+    "decode LeftOut",
+    "decode BadOpcode",
+    "decode UnusedField",
+    "decode TooLong",
+    "shape Backward",
+    *(f"verify V{rule}" for rule in (1, 3, 4, 5, 6, 7, 8, 9, 11, 12, 13, 15)),
+)
 
 
-def annotated(code, context, rings):
+def annotated(code, context, rings: int):
     """Returns the instructions of an accepted program by their units, and what is known before each."""
     insns, states, verifier = decoded(code), {0: State()}, Verifier(context, rings)
     for unit, insn in insns.items():
@@ -62,7 +68,7 @@ def class_of(insn, state):
     return None
 
 
-def lines(code, context, rings):
+def lines(code, context, rings: int):
     """Returns each class with the unit at which Linux refuses an accepted program by it, in the order of the units."""
     insns, states = annotated(code, context, rings)
     found = ((class_of(insn, states[unit]), unit) for unit, insn in insns.items())

@@ -11,11 +11,11 @@ ALL_ONES = (1 << 64) - 1
 class Ring:
     """A ring's positions, and its records in order: position, length, bytes, and whether it was discarded."""
 
-    def __init__(self, size):
+    def __init__(self, size: int) -> None:
         self.size, self.producer, self.consumer, self.records = size, 0, 0, []
         self.due, self.notices = False, []
 
-    def grant(self, length):
+    def grant(self, length: int):
         """Returns a record of this length, or None if there is no room."""
         if length > LONGEST or self.producer + span(length) - self.consumer > self.size - 1:
             return None
@@ -24,7 +24,7 @@ class Ring:
         self.producer += span(length)
         return record
 
-    def end(self, record, data, discarded, flags):
+    def end(self, record, data, discarded, flags: int) -> None:
         record[2:] = bytes(data), discarded
         is_told = is_due(self.consumer, record[0], flags)
         self.notices.append((self.consumer, record[0], flags, is_told))
@@ -33,7 +33,7 @@ class Ring:
     def query(self, what):
         return {0: self.producer - self.consumer, 1: self.size, 2: self.consumer, 3: self.producer}.get(what, 0)
 
-    def take(self, count):
+    def take(self, count: int):
         taken, self.records = self.records[:count], self.records[count:]
         for position, length, _, _ in taken:
             self.consumer = position + span(length)
@@ -43,16 +43,16 @@ class Ring:
 class RingRun(Run):
     """A run of a program's instructions over a context and rings."""
 
-    def __init__(self, insns, context, rings):
+    def __init__(self, insns, context, rings: int) -> None:
         super().__init__(insns, context, ())
         self.rings, self.granted = rings, {}
         # The stack bytes that are left of a partly overwritten pointer, and whether one of them was read.
         self.left_of_pointers, self.reads_pointer = set(), False
 
-    def stack_bytes(self, pointer, size):
+    def stack_bytes(self, pointer, size: int):
         return set(range(STACK + pointer[-1], STACK + pointer[-1] + size)) if pointer[0] == "stack" else set()
 
-    def moved(self, register, offset):
+    def moved(self, register: int, offset: int):
         base = self.values[register]
         return (*base[:-1], base[-1] + offset)
 
@@ -60,7 +60,7 @@ class RingRun(Run):
         self.see_read(self.moved(insn.src, insn.offset), insn.size)
         return super().load(insn)
 
-    def store(self, insn, value):
+    def store(self, insn, value) -> None:
         pointer = self.moved(insn.dst, insn.offset)
         if pointer[0] == "stack":
             kept = {place for place in touched(pointer[1], insn.size) if place in self.kept}
@@ -68,10 +68,10 @@ class RingRun(Run):
             self.left_of_pointers -= self.stack_bytes(pointer, insn.size)
         super().store(insn, value)
 
-    def see_read(self, pointer, size):
+    def see_read(self, pointer, size: int) -> None:
         self.reads_pointer = self.reads_pointer or bool(self.stack_bytes(pointer, size) & self.left_of_pointers)
 
-    def call(self, unit, helper):
+    def call(self, unit: int, helper) -> None:
         first, second, third, fourth = self.values[1:5]
         answer = 0
         match helper:
@@ -90,7 +90,7 @@ class RingRun(Run):
                 ring.end(record, self.parts[first[:2]], helper == DISCARD, second)
         self.values[0:6] = [answer if not isinstance(answer, int) else answer & ALL_ONES] + [0] * 5
 
-    def output(self, ring, memory, length, flags):
+    def output(self, ring, memory, length: int, flags: int):
         if flags & ~(NO_WAKEUP | FORCE_WAKEUP):
             return -EINVAL
         record = ring.grant(length)
@@ -98,5 +98,5 @@ class RingRun(Run):
             return -EAGAIN
         part, at = self.part(memory)
         self.see_read(memory, length)
-        ring.end(record, part[at:at + length], False, flags)
+        ring.end(record, part[at : at + length], False, flags)
         return 0

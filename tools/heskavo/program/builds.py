@@ -15,7 +15,10 @@ from heskavo.repository import CRATES, ROOT
 
 # The file name of each crate's build.
 NAMES = {"rbhost": "rbhost", "rb_trials": "rb_trials", "heskavo_c": "libheskavo.a"}
-FAST, SANITIZED = "optimized, with checks of sums and indices", "not optimized, and with AddressSanitizer: some thousand times slower than the proved program"
+FAST, SANITIZED = (
+    "optimized, with checks of sums and indices",
+    "not optimized, and with AddressSanitizer: some thousand times slower than the proved program",
+)
 
 
 def say(message: str) -> None:
@@ -38,7 +41,10 @@ class Build:
     def make(self) -> None:
         """Builds the program, unless another call has built it meanwhile."""
         if not kit.is_there():
-            raise Failure(127, f"there is no {self.crate} yet, and no Rattle kit to build it with: put the kit's bin/rt on the path (README.md says which kit)")
+            raise Failure(
+                127,
+                f"there is no {self.crate} yet, and no Rattle kit to build it with: put the kit's bin/rt on the path (README.md says which kit)",
+            )
         self.folder.mkdir(parents=True, exist_ok=True)
         with open(self.folder / "lock", "w") as lock:
             try:
@@ -54,17 +60,24 @@ class Build:
         warning = kit.unexpected_version()
         if warning:
             say(warning)
-        say(f"building {self.crate} once, which takes two to three minutes on two processors and proves nothing (tools/install proves it)")
+        say(
+            f"building {self.crate} once, which takes two to three minutes on two processors and proves nothing (tools/install proves it)"
+        )
         began, sums = time.monotonic(), sources.sums(self.crate)
         with tempfile.TemporaryDirectory(prefix="rbhost.") as name:
             work = pathlib.Path(name)
             built, how = self.built(work)
             if built is None:
-                raise Failure(126, f"this kit's `rt try` failed, or does not compile and link as expected:\n{kit.last_lines(work)}")
+                raise Failure(
+                    126,
+                    f"this kit's `rt try` failed, or does not compile and link as expected:\n{kit.last_lines(work)}",
+                )
             took = time.monotonic() - began
             self.keep(built)
         when = datetime.datetime.now().strftime("%Y-%m-%d %H:%M")
-        self.how.write_text(f"built {when} in {took:.0f} s by {kit.version()}, without any proof: {how}\nfrom commit {commit()} and what was changed there\n")
+        self.how.write_text(
+            f"built {when} in {took:.0f} s by {kit.version()}, without any proof: {how}\nfrom commit {commit()} and what was changed there\n"
+        )
         self.sums.write_text(sums)
         say(f"built in {took:.0f} s, and kept in {self.folder.relative_to(ROOT)}; later calls start it at once")
 
@@ -88,7 +101,9 @@ class Build:
 
 def commit() -> str:
     """Returns the commit that is checked out."""
-    found = subprocess.run(["git", "rev-parse", "--short", "HEAD"], cwd=ROOT, capture_output=True, text=True, check=False)
+    found = subprocess.run(
+        ["git", "rev-parse", "--short", "HEAD"], cwd=ROOT, capture_output=True, text=True, check=False
+    )
     return found.stdout.strip() or "unknown"
 
 
@@ -123,7 +138,11 @@ def describe(crate: str) -> None:
         print(f"installed {installed}\nbuilt by tools/install: {version}")
     else:
         print(f"unproved {build.program}")
-        print(build.how.read_text().rstrip() if build.is_current() else "is not built yet, or its sources have changed; the next call builds it")
+        print(
+            build.how.read_text().rstrip()
+            if build.is_current()
+            else "is not built yet, or its sources have changed; the next call builds it"
+        )
 
 
 def find(crate: str) -> pathlib.Path:

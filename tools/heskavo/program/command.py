@@ -20,11 +20,26 @@ from heskavo.program import builds
 def add_arguments(parser: argparse.ArgumentParser) -> None:
     """Adds the name and what is asked of the program."""
     kind = parser.add_mutually_exclusive_group()
-    kind.add_argument("--path", action="store_true", help="print the path, and build the program if necessary (the default)")
-    kind.add_argument("--which", action="store_true", help="print which program there is and how it was built, and build nothing")
-    kind.add_argument("--sanitized", action="store_true", help="rbhost without optimization and with AddressSanitizer, kept in crates/rbhost/out/sanitized")
+    kind.add_argument(
+        "--path", action="store_true", help="print the path, and build the program if necessary (the default)"
+    )
+    kind.add_argument(
+        "--which", action="store_true", help="print which program there is and how it was built, and build nothing"
+    )
+    kind.add_argument(
+        "--sanitized",
+        action="store_true",
+        help="rbhost without optimization and with AddressSanitizer, kept in crates/rbhost/out/sanitized",
+    )
     parser.add_argument("--unproved", action="store_true", help="the one without proof, even if there is a proved one")
-    parser.add_argument("name", choices=builds.NAMES, nargs="?", default="rbhost", metavar="NAME", help="rbhost (the default), rb_trials, or heskavo_c for the library")
+    parser.add_argument(
+        "name",
+        choices=builds.NAMES,
+        nargs="?",
+        default="rbhost",
+        metavar="NAME",
+        help="rbhost (the default), rb_trials, or heskavo_c for the library",
+    )
 
 
 def run(asked: argparse.Namespace) -> int:

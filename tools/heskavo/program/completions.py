@@ -6,13 +6,16 @@ import subprocess
 # Options whose value is a file; those of the others are not completed.
 FILES = {"--from", "--metrics", "--out", "--program", "--tape"}
 
+# Each command with its description, its options with their help, and the options that take a value.
+Commands = dict[str, tuple[str, dict[str, str], set[str]]]
 
-def help_of(program, *words):
+
+def help_of(program: str | pathlib.Path, *words: str) -> list[str]:
     """The lines of the program's help, or of a command's."""
     return subprocess.run([program, *words, "--help"], check=True, capture_output=True, text=True).stdout.splitlines()
 
 
-def section(lines, title):
+def section(lines: list[str], title: str) -> list[str]:
     """Returns the lines below a title, up to the next one."""
     at = lines.index(title) + 1
     found = []
@@ -23,26 +26,30 @@ def section(lines, title):
     return found
 
 
-def commands_of(program):
+def commands_of(program: str | pathlib.Path) -> Commands:
     """Returns each command with its description, and its options with their help; options that take a value are in `valued`."""
-    commands = {}
+    commands: Commands = {}
     for line in section(help_of(program), "Commands:"):
-        name, does = re.match(r"  (\S+)\s+(.*)", line).groups()
-        options, valued = {}, set()
+        name, does = line.split(maxsplit=1)
+        options: dict[str, str] = {}
+        valued: set[str] = set()
         if name != "help":
             for option in section(help_of(program, name), "Options:"):
                 found = re.match(r"\s+(?:-\w, )?(--[\w-]+)( <[^>]+>)?\s+(.*)", option)
-                options[found[1]] = found[3]
-                if found[2]:
-                    valued.add(found[1])
+                if found:
+                    options[found[1]] = found[3]
+                    valued |= {found[1]} if found[2] else set()
         commands[name] = (does, options, valued)
     return commands
 
 
-def bash(commands):
+def bash(commands: Commands) -> str:
     """Returns the completions for bash: a command first, then its options or a file, commands after `help`, and files if an option takes one."""
     names = " ".join(name for name in commands if name != "help")
-    cases = "\n".join(f"            {name}) words='{names if name == 'help' else ' '.join(options)}' ;;" for name, (_, options, _) in commands.items())
+    cases = "\n".join(
+        f"            {name}) words='{names if name == 'help' else ' '.join(options)}' ;;"
+        for name, (_, options, _) in commands.items()
+    )
     numbers = sorted({option for _, _, valued in commands.values() for option in valued} - FILES)
     return f"""# Completions of rbhost for bash, written by tools/install.
 _rbhost() {{
@@ -73,20 +80,26 @@ complete -F _rbhost rbhost
 """
 
 
-def quoted(text):
+def quoted(text: str) -> str:
     """Returns text for single quotes, without characters that end them or that zsh interprets in a description."""
     return text.replace("'", "\u2019").replace("[", "(").replace("]", ")").replace(":", ",")
 
 
-def zsh(commands):
+def zsh(commands: Commands) -> str:
     """Returns the completions for zsh: the same, with the description of each command and option."""
     names = "\n".join(f"        '{name}:{quoted(does)}'" for name, (does, _, _) in commands.items())
     cases = ["        help) (( CURRENT == 2 )) && _describe command commands ;;"]
     for name, (_, options, valued) in commands.items():
         if name == "help":
             continue
-        takes = {option: (":file:_files" if option in FILES else ":number: ") if option in valued else "" for option in options}
-        words = " ".join(f"'{option}{'=' if takes[option] else ''}[{quoted(does)}]{takes[option]}'" for option, does in options.items())
+        takes = {
+            option: (":file:_files" if option in FILES else ":number: ") if option in valued else ""
+            for option in options
+        }
+        words = " ".join(
+            f"'{option}{'=' if takes[option] else ''}[{quoted(does)}]{takes[option]}'"
+            for option, does in options.items()
+        )
         cases.append(f"        {name}) _arguments {words} ':file:_files' ;;")
     return f"""#compdef rbhost
 # Completions of rbhost for zsh, written by tools/install.
@@ -109,7 +122,7 @@ _rbhost "$@"
 """
 
 
-def fish(commands):
+def fish(commands: Commands) -> str:
     """Returns the completions for fish: the same."""
     lines = ["# Completions of rbhost for fish, written by tools/install.", "complete -c rbhost -f"]
     for name, (does, options, valued) in commands.items():
@@ -121,7 +134,9 @@ def fish(commands):
             lines.append(f"complete -c rbhost -n '__fish_seen_subcommand_from {name}' -F")
         for option, what in options.items():
             takes = " -r -F" if option in FILES else " -x" if option in valued else ""
-            lines.append(f"complete -c rbhost -n '__fish_seen_subcommand_from {name}' -l {option[2:]}{takes} -d '{quoted(what)}'")
+            lines.append(
+                f"complete -c rbhost -n '__fish_seen_subcommand_from {name}' -l {option[2:]}{takes} -d '{quoted(what)}'"
+            )
     return "\n".join(lines) + "\n"
 
 

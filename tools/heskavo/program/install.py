@@ -19,28 +19,42 @@ import subprocess
 import sys
 import tempfile
 import time
+from collections.abc import Iterator
 
 from heskavo.command_line import Failure, UsageError
 from heskavo.program import completions, library
 from heskavo.repository import CRATES, ROOT, crates_below
 
 # The folders below the prefix to which files are copied.
-FOLDERS = ["bin", "lib", "lib/pkgconfig", "include", "share/heskavo", "share/man/man1", "share/bash-completion/completions", "share/zsh/site-functions", "share/fish/vendor_completions.d"]
+FOLDERS = [
+    "bin",
+    "lib",
+    "lib/pkgconfig",
+    "include",
+    "share/heskavo",
+    "share/man/man1",
+    "share/bash-completion/completions",
+    "share/zsh/site-functions",
+    "share/fish/vendor_completions.d",
+]
 
 # The maximal disk space, in bytes, of the proofs of a checkout and of an installation.
 PROOFS_TAKE, INSTALLED_TAKES = 5 << 30, 100 << 20
 
 
-def nearest(folder):
+def nearest(folder: pathlib.Path) -> pathlib.Path:
     """Returns the folder itself, or its nearest ancestor that exists."""
     while not os.path.lexists(folder):
         folder = folder.parent
     return folder
 
 
-def why_not(prefix):
+def why_not(prefix: pathlib.Path) -> Iterator[str]:
     """Yields what prevents an installation below this prefix, one problem a line."""
-    for tool, what in (("rt", "the command of the Rattle kit (README.md says which kit)"), ("ar", "of Debian's package binutils")):
+    for tool, what in (
+        ("rt", "the command of the Rattle kit (README.md says which kit)"),
+        ("ar", "of Debian's package binutils"),
+    ):
         if shutil.which(tool) is None:
             yield f"`{tool}` is not on the path: {what}"
     for there in dict.fromkeys(nearest(prefix / folder) for folder in FOLDERS):
@@ -56,19 +70,29 @@ def why_not(prefix):
             yield f"{folder} has {free >> 20} MB of free space, and {wanted >> 20} MB may be needed"
 
 
-def compare_kit():
+def compare_kit() -> None:
     """Prints a warning if the kit's logic is not the one that README.md names, by its checksum; kits with the same checksum prove the same."""
     wanted = re.search(r"logic ([0-9a-f]{16})", (ROOT / "README.md").read_text())
     found = subprocess.run(["rt", "version"], capture_output=True, text=True, check=True).stdout.strip()
     if wanted and not found.endswith(wanted[0]):
-        print(f"`rt version` prints `{found}`, and this repository is proved with {wanted[0]}: another logic may refuse it", flush=True)
+        print(
+            f"`rt version` prints `{found}`, and this repository is proved with {wanted[0]}: another logic may refuse it",
+            flush=True,
+        )
 
 
-def prove(crate, words, proved, many):
+def prove(crate: str, words: list[str], proved: set[str], many: int) -> None:
     """Runs rt in a crate's folder, and prints each crate that it proved; if rt fails, prints its output."""
     began, lines, last = time.monotonic(), [], None
-    with subprocess.Popen(["rt", *words], cwd=CRATES / crate, stdin=subprocess.DEVNULL, stdout=subprocess.PIPE, stderr=subprocess.STDOUT, text=True) as rt:
-        for line in rt.stdout:
+    with subprocess.Popen(
+        ["rt", *words],
+        cwd=CRATES / crate,
+        stdin=subprocess.DEVNULL,
+        stdout=subprocess.PIPE,
+        stderr=subprocess.STDOUT,
+        text=True,
+    ) as rt:
+        for line in rt.stdout or ():
             lines.append(line)
             if line.startswith("crate "):
                 last = line.split()[1].rstrip(":")
@@ -76,10 +100,12 @@ def prove(crate, words, proved, many):
                 proved.add(last)
                 print(f"proved {last}, {len(proved)} of {many}, {time.monotonic() - began:.0f} s", flush=True)
     if rt.returncode:
-        sys.exit("".join(lines[-40:]) + f"tools/install: rt {' '.join(words)} in crates/{crate} ended with {rt.returncode}")
+        sys.exit(
+            "".join(lines[-40:]) + f"tools/install: rt {' '.join(words)} in crates/{crate} ended with {rt.returncode}"
+        )
 
 
-def put(source, folder, mode):
+def put(source: pathlib.Path, folder: pathlib.Path, mode: int) -> None:
     """Copies a file into a folder of the prefix."""
     folder.mkdir(parents=True, exist_ok=True)
     shutil.copyfile(source, folder / source.name)
@@ -87,20 +113,29 @@ def put(source, folder, mode):
     print(f"installed {folder / source.name}")
 
 
-def put_pkg_config(prefix):
+def put_pkg_config(prefix: pathlib.Path) -> None:
     """Writes heskavo.pc, by which pkg-config tells the flags of the header and the library."""
-    version = re.search(r"VERSION: &str = \"([0-9.]+)\"", (CRATES / "rb_version" / "src" / "lib.rt").read_text())[1]
+    version = re.findall(r"VERSION: &str = \"([0-9.]+)\"", (CRATES / "rb_version" / "src" / "lib.rt").read_text())[0]
     folder = prefix / "lib" / "pkgconfig"
     folder.mkdir(parents=True, exist_ok=True)
-    lines = [f"prefix={prefix}", "Name: heskavo", "Description: Verified eBPF programs over BPF ring buffers", f"Version: {version}", "Cflags: -I${prefix}/include", "Libs: -L${prefix}/lib -lheskavo"]
+    lines = [
+        f"prefix={prefix}",
+        "Name: heskavo",
+        "Description: Verified eBPF programs over BPF ring buffers",
+        f"Version: {version}",
+        "Cflags: -I${prefix}/include",
+        "Libs: -L${prefix}/lib -lheskavo",
+    ]
     (folder / "heskavo.pc").write_text("\n".join(lines) + "\n")
     print(f"installed {folder / 'heskavo.pc'}")
 
 
-def put_bindings(prefix):
+def put_bindings(prefix: pathlib.Path) -> None:
     """Copies the sources of the bindings, without what was built of them."""
     to = prefix / "share" / "heskavo" / "bindings"
-    shutil.copytree(ROOT / "bindings", to, ignore=shutil.ignore_patterns("target", "Cargo.lock", ".gitignore"), dirs_exist_ok=True)
+    shutil.copytree(
+        ROOT / "bindings", to, ignore=shutil.ignore_patterns("target", "Cargo.lock", ".gitignore"), dirs_exist_ok=True
+    )
     print(f"installed {to}")
 
 
@@ -116,7 +151,9 @@ def install(prefix: pathlib.Path) -> None:
     """Proves, then installs."""
     obstacles = list(why_not(prefix))
     if obstacles:
-        sys.exit("".join(f"tools/install: {it}\n" for it in obstacles) + "tools/install: nothing was proved or installed")
+        sys.exit(
+            "".join(f"tools/install: {it}\n" for it in obstacles) + "tools/install: nothing was proved or installed"
+        )
     compare_kit()
     crates = crates_below(["rbhost", "heskavo_c"])
     print(f"{len(crates)} crates have to be proved; the first time takes some 60 processor minutes", flush=True)
@@ -139,7 +176,9 @@ def install(prefix: pathlib.Path) -> None:
 
 def add_arguments(parser: argparse.ArgumentParser) -> None:
     """Adds the places."""
-    parser.add_argument("--prefix", default="/usr/local", metavar="DIR", type=pathlib.Path, help="where to install (/usr/local)")
+    parser.add_argument(
+        "--prefix", default="/usr/local", metavar="DIR", type=pathlib.Path, help="where to install (/usr/local)"
+    )
     parser.add_argument("--library", metavar="FOLDER", type=pathlib.Path, help="only put libheskavo.a into FOLDER")
     parser.add_argument("--unproved", action="store_true", help="with --library: build it without proof")
 

@@ -14,7 +14,9 @@ def files(crate: str) -> list[pathlib.Path]:
 
 def sums(crate: str) -> str:
     """Returns the checksums of these files, in the format that sha256sum --check reads at the top of the repository."""
-    return "".join(f"{hashlib.sha256(path.read_bytes()).hexdigest()}  {path.relative_to(ROOT)}\n" for path in files(crate))
+    return "".join(
+        f"{hashlib.sha256(path.read_bytes()).hexdigest()}  {path.relative_to(ROOT)}\n" for path in files(crate)
+    )
 
 
 def is_current(recorded: pathlib.Path) -> bool:

@@ -5,7 +5,10 @@ searches each body's own goal. Where it finds no proof, the goal is open. Any ot
 body, and it may not fit another that the contract allows.
 """
 import re
+from collections.abc import Iterable
 from typing import NamedTuple, Optional
+
+from heskavo.refused.kit import Error
 
 MISSING = re.compile(r"\.Goals` has no `([^`]*)`")
 HEAD = re.compile(r"(?:\s*--[^\n]*\n)*\s*(?:pub )?([^\s:]+)[^\n]* :")
@@ -23,30 +26,34 @@ class Paragraph(NamedTuple):
     name: Optional[str]
     first: int
 
-    def end(self):
+    def end(self) -> int:
         return self.first + max(1, self.text.count("\n"))
 
 
-def names(text, name):
-    return re.search(rf"(?<![\w-]){re.escape(name)}(?![\w-])", text)
+def names(text: str, name: str) -> bool:
+    return re.search(rf"(?<![\w-]){re.escape(name)}(?![\w-])", text) is not None
 
 
-def paragraphs(text):
+def paragraphs(text: str) -> list[Paragraph]:
     """The file's paragraphs; of one that defines nothing, as one of `use` lines, the name is None."""
     found, at = [], 1
     for paragraph in re.split(r"(?<=\n)(?=\n)", text):
         head = None if paragraph.lstrip().startswith("use ") else HEAD.match(paragraph)
-        found.append(Paragraph(paragraph, head and head[1], at))
+        found.append(Paragraph(paragraph, head[1] if head else None, at))
         at += paragraph.count("\n")
     return found
 
 
-def of_goals(text):
+def of_goals(text: str) -> set[str]:
     """The names of the goals that have an answer in the file."""
-    return {it.name for it in paragraphs(text) if it.name and re.search(rf"^(?:pub )?{re.escape(it.name)} : \w+\.{re.escape(it.name)}$", it.text, re.M)}
+    return {
+        it.name
+        for it in paragraphs(text)
+        if it.name and re.search(rf"^(?:pub )?{re.escape(it.name)} : \w+\.{re.escape(it.name)}$", it.text, re.M)
+    }
 
 
-def without(text, gone):
+def without(text: str, gone: Iterable[str]) -> str:
     """The file without these definitions and those that name one of them."""
     whole = paragraphs(text)
     gone = with_those_that_name(whole, gone)
@@ -54,46 +61,53 @@ def without(text, gone):
     return "".join(without_unused(it, kept[at + 1 :]) for at, it in enumerate(kept))
 
 
-def with_those_that_name(whole, gone):
+def with_those_that_name(whole: list[Paragraph], gone: Iterable[str]) -> set[str]:
     """These definitions, and those whose paragraphs name one of them."""
-    found, gone = True, {*gone}
-    while found:
-        found = {it.name for it in whole if it.name and it.name not in gone and any(names(it.text, name) for name in gone)}
-        gone |= found
-    return gone
+    every = {*gone}
+    while found := {
+        it.name for it in whole if it.name and it.name not in every and any(names(it.text, name) for name in every)
+    }:
+        every |= found
+    return every
 
 
-def without_unused(paragraph, others):
+def without_unused(paragraph: str, others: list[str]) -> str:
     """A paragraph of `use` lines without the goals that the others do not name: in another body a goal may have another shape."""
     lines = []
     for line in paragraph.split("\n"):
         found = re.match(r"use (\S+\.Goals)\.\{(.*)\}$", line)
-        if found:
-            used = [name for name in found[2].split(", ") if any(names(it, name) for it in others)]
-            line = f"use {found[1]}.{{{', '.join(used)}}}" if used else None
-        lines.append(line)
-    return "\n".join(line for line in lines if line is not None)
+        used = [name for name in found[2].split(", ") if any(names(it, name) for it in others)] if found else []
+        if not found or used:
+            lines.append(f"use {found[1]}.{{{', '.join(used)}}}" if found else line)
+    return "\n".join(lines)
 
 
-def unfit(text, errors):
+def unfit(text: str, errors: list[Error]) -> set[str]:
     """The definitions of the file, as it was checked, in which these errors stand, or which name a goal that is not there any more."""
     whole = [it for it in paragraphs(text) if it.name]
-    gone = {it.name for it in whole for error in errors if it.first <= error.line < it.end()}
+    gone = {it.name for it in whole for error in errors if it.name and it.first <= error.line < it.end()}
     missing = [goal for error in errors for goal in MISSING.findall(error.said)]
-    return gone | {it.name for it in whole if any(names(it.text, goal) for goal in missing)}
+    return gone | {it.name for it in whole if it.name and any(names(it.text, goal) for goal in missing)}
 
 
-def is_of_the_goal(text, error):
+def is_of_the_goal(text: str, error: Error) -> bool:
     """Whether the error stands at a tactic that is run on a whole goal, or on a case of it, so that it found no proof of it."""
     paragraph = next((it for it in paragraphs(text) if it.name and it.first <= error.line < it.end()), None)
-    lines = paragraph.text.split("\n")[: error.line - paragraph.first + 1] if paragraph else []
+    if paragraph is None:
+        return False
+    lines = paragraph.text.split("\n")[: error.line - paragraph.first + 1]
     if not lines or not TACTIC.match(lines[-1][error.column - 1 :]):
         return False
-    before = re.split(rf"^{re.escape(paragraph.name)}(?: [\w ]+)? =\s*", "\n".join([*lines[:-1], lines[-1][: error.column - 1]]), maxsplit=1, flags=re.M)
+    before = re.split(
+        rf"^{re.escape(paragraph.name or str())}(?: [\w ]+)? =\s*",
+        "\n".join([*lines[:-1], lines[-1][: error.column - 1]]),
+        maxsplit=1,
+        flags=re.M,
+    )
     return len(before) == 2 and is_led_in(before[1])
 
 
-def is_led_in(before):
+def is_led_in(before: str) -> bool:
     """Whether nothing but `let` lines, the head of an `elim` and earlier cases by tactics stand before a tactic."""
     rest = LET.sub("", before)
     cases = CASES.match(rest)

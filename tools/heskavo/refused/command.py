@@ -33,9 +33,11 @@ import os
 import pathlib
 import threading
 import time
+from typing import Any
 
 from heskavo.command_line import Failure
 from heskavo.refused import clauses, edits as edit_files, goals, kit, passed, rounds
+from heskavo.refused.edits import Edit
 from heskavo.repository import ROOT
 
 PRINTING = threading.Lock()
@@ -43,12 +45,12 @@ PRINTING = threading.Lock()
 MOST = 3_500_000_000
 
 
-def tell(lines):
+def tell(lines: list[str]) -> None:
     with PRINTING:
         print("\n".join(lines), flush=True)
 
 
-def is_proved(crate, work):
+def is_proved(crate: Any, work: kit.Work) -> bool:
     """Whether the crate is proved as it stands, over what is kept of its check."""
     if not kit.build_libraries(crate):
         tell([f"{crate.name}: the libraries below it are not built"])
@@ -62,7 +64,7 @@ def is_proved(crate, work):
     return not answer.status
 
 
-def note(work, run):
+def note(work: kit.Work, run: rounds.Rounds) -> None:
     """Writes into the files that had no notes, or notes that do not hold any more, what the mutants left open, and which goal of each a tactic proves in the right body."""
     for edit in run.lack_answers:
         edit.note_taken_out()
@@ -78,14 +80,19 @@ def note(work, run):
             edit.note_tried(found[0])
 
 
-def passes(edit, outcome):
+def passes(edit: Edit, outcome: rounds.Outcome) -> bool:
     """Whether a mutant came to what it should, or is one of those in planted/ that only earn a warning."""
-    return outcome == rounds.Outcome.REFUSED or edit.path.parent.name == edit_files.PLANTED and outcome in (rounds.Outcome.ANSWER, rounds.Outcome.LIMIT)
+    return (
+        outcome == rounds.Outcome.REFUSED
+        or edit.path.parent.name == edit_files.PLANTED
+        and outcome in (rounds.Outcome.ANSWER, rounds.Outcome.LIMIT)
+    )
 
 
-def tried(crate, edits, given):
+def tried(crate: Any, edits: list[Edit], given: argparse.Namespace) -> dict[Edit, rounds.Outcome] | None:
     """Tries a crate's edits, and returns what each came to, or None where the crate itself is not proved."""
-    began, lines = time.time(), []
+    began = time.time()
+    lines: list[str] = []
     work = kit.Work(crate)
     try:
         if given.over_gate and kit.are_of_the_gate(crate):
@@ -102,31 +109,44 @@ def tried(crate, edits, given):
     finally:
         work.drop()
     well = sum(outcome == rounds.Outcome.REFUSED for outcome in run.outcomes.values())
-    tell([f"{crate.name}: {well} of {len(edits)} refused, in {run.number} rounds and {run.right.checks} checks of right bodies, {first:.0f} s and {time.time() - began - first:.0f} s", *lines])
+    tell(
+        [
+            f"{crate.name}: {well} of {len(edits)} refused, in {run.number} rounds and {run.right.checks} checks of right bodies, {first:.0f} s and {time.time() - began - first:.0f} s",
+            *lines,
+        ]
+    )
     return run.outcomes
 
 
-def lanes_of(asked):
+def lanes_of(asked: int) -> int:
     return asked or max(1, min(kit.rt.processors(), int(kit.rt.free() / MOST)))
 
 
-def misplaced(crates):
+def misplaced(crates: list[Any]) -> list[str]:
     """The mutants in planted/ whose text is not in its file exactly once: the gate tries none of them, but notices those that no longer apply."""
     edits = [edit for crate in crates for edit in edit_files.read_all(crate, [edit_files.PLANTED])]
     return [f"{edit.label()} ({edit.fault})" for edit in edits if edit.fault]
 
 
-def try_all(crates, given):
+def try_all(crates: list[Any], given: argparse.Namespace) -> tuple[int, list[str]]:
     """Tries the mutants of all these crates, those with the most code first, and returns how many passed and what failed."""
     work = []
-    folders = [given.folder] if given.folder else [edit_files.REFUSED] if given.over_gate else [edit_files.REFUSED, edit_files.PLANTED]
+    folders = (
+        [given.folder]
+        if given.folder
+        else [edit_files.REFUSED]
+        if given.over_gate
+        else [edit_files.REFUSED, edit_files.PLANTED]
+    )
     for crate in crates:
         edits = edit_files.read_all(crate, folders)
         stamp = passed.stamp(crate, edits)
         if edits and not (given.changed and passed.is_noted(crate, stamp)):
             work.append((crate, edits, stamp))
     work.sort(key=lambda it: -it[0].count(rb"\n"))
-    passing, failed, warned = 0, [], []
+    passing = 0
+    failed: list[str] = []
+    warned: list[str] = []
     with concurrent.futures.ThreadPoolExecutor(lanes_of(given.lanes)) as pool:
         runs = [(crate, edits, stamp, pool.submit(tried, crate, edits, given)) for crate, edits, stamp in work]
         for crate, edits, stamp, run in runs:
@@ -135,12 +155,22 @@ def try_all(crates, given):
                 failed += [edit.label() for edit in edits]
                 continue
             bad = [edit.label() for edit in edits if not passes(edit, outcomes[edit])]
-            shows_nothing = [edit.label() for edit in edits if passes(edit, outcomes[edit]) and outcomes[edit] != rounds.Outcome.REFUSED]
-            passing, failed, warned = passing + len(edits) - len(bad) - len(shows_nothing), failed + bad, warned + shows_nothing
+            shows_nothing = [
+                edit.label()
+                for edit in edits
+                if passes(edit, outcomes[edit]) and outcomes[edit] != rounds.Outcome.REFUSED
+            ]
+            passing, failed, warned = (
+                passing + len(edits) - len(bad) - len(shows_nothing),
+                failed + bad,
+                warned + shows_nothing,
+            )
             if not bad:
                 passed.note(crate, stamp)
     if warned:
-        print(f"warning: these in planted/ leave no goal open that the right body closes ({len(warned)}): {' '.join(warned)}")
+        print(
+            f"warning: these in planted/ leave no goal open that the right body closes ({len(warned)}): {' '.join(warned)}"
+        )
     return passing, failed
 
 
@@ -148,12 +178,16 @@ def add_arguments(parser: argparse.ArgumentParser) -> None:
     """Adds the crates and the options."""
     parser.add_argument("crates", metavar="CRATE", nargs="*", help="only the mutants of these crates")
     parser.add_argument("--changed", action="store_true", help="only of crates that changed since their mutants passed")
-    parser.add_argument("--over-gate", metavar="FOLDER", help="only those in refused/, over what `rt ci` has just proved")
+    parser.add_argument(
+        "--over-gate", metavar="FOLDER", help="only those in refused/, over what `rt ci` has just proved"
+    )
     parser.add_argument("--uncovered", action="store_true", help="list the clauses that no mutant names")
     parser.add_argument("--note", action="store_true", help="write notes into the files")
     parser.add_argument("--folder", metavar="NAME", help="those in crates/*/NAME instead of refused/ and planted/")
     parser.add_argument("--root", metavar="FOLDER", type=pathlib.Path, default=ROOT, help="the repository (this one)")
-    parser.add_argument("--lanes", metavar="N", type=int, default=0, help="try N crates at a time (by processors and memory)")
+    parser.add_argument(
+        "--lanes", metavar="N", type=int, default=0, help="try N crates at a time (by processors and memory)"
+    )
 
 
 def run(asked: argparse.Namespace) -> int:

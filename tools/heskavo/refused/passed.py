@@ -2,11 +2,13 @@
 import hashlib
 import os
 import pathlib
+from collections.abc import Iterable
+from typing import Any
 
 STORE = pathlib.Path(os.environ.get("XDG_CACHE_HOME") or pathlib.Path.home() / ".cache") / "heskavo-refused"
 
 
-def stamp(crate, edits):
+def stamp(crate: Any, edits: Iterable[Any]) -> str:
     """A sum of the crate's files, those of the libraries below it, the kit, and the edits."""
     sum_of_all = hashlib.sha256(crate.stamp().encode())
     for edit in edits:
@@ -14,14 +16,14 @@ def stamp(crate, edits):
     return sum_of_all.hexdigest()
 
 
-def is_noted(crate, stamp_now):
+def is_noted(crate: Any, stamp_now: str) -> bool:
     try:
         return stamp_now in (STORE / crate.name).read_text().split()
     except OSError:
         return False
 
 
-def note(crate, stamp_now):
+def note(crate: Any, stamp_now: str) -> None:
     """Notes that all passed; the last twenty are kept, since several checkouts may be at work."""
     try:
         STORE.mkdir(parents=True, exist_ok=True)

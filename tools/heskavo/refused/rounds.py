@@ -3,14 +3,15 @@
 A function's proof rests on its own body and on the contracts of what it calls, never on another body, so mutants of different functions do not interfere. If a
 function calls another that is not proved in that round, the check skips it, and its mutant is tried again in the next round.
 """
+from __future__ import annotations
+
 import enum
 import re
+from collections.abc import Callable
 
-from heskavo.refused import answers
-from heskavo.refused import clauses
-from heskavo.refused import edits as edit_files
-from heskavo.refused import goals
-from heskavo.refused import right_bodies
+from heskavo.refused import answers, clauses, edits as edit_files, goals, right_bodies
+from heskavo.refused.edits import Edit, Owner
+from heskavo.refused.kit import Answer, Work
 
 OPEN = re.compile(r"`search` did not prove (.*)$")
 HIDDEN = re.compile(r"it (?:calls|waits)\b")
@@ -29,7 +30,7 @@ class Outcome(enum.Enum):
     UNTOLD = "NOT TOLD"
 
 
-def is_shared(edit, group):
+def is_shared(edit: Edit, group: list[Edit]) -> bool:
     """Whether another edit of a group changes a function of this one."""
     return any(edit.owners & other.owners for other in group if other is not edit)
 
@@ -37,30 +38,36 @@ def is_shared(edit, group):
 class Rounds:
     """The rounds over one crate, and what each of its mutants came to."""
 
-    def __init__(self, work, edits, tell):
-        self.work, self.tell, self.left, self.outcomes = work, tell, [], {}
+    def __init__(self, work: Work, edits: list[Edit], tell: Callable[[str], None]) -> None:
+        self.work, self.tell = work, tell
+        self.left: list[Edit] = []
+        self.outcomes: dict[Edit, Outcome] = {}
         self.right = right_bodies.RightBodies(work)
         noted = {edit for edit in edits if edit.is_noted()}
         self.by_itself = {edit for edit in noted if edit.tried}
         self.by_notes = noted - self.by_itself
         for edit in {*edits} - noted:
             edit.taken_out = set()
-        self.alone, self.bare, self.number = set(), set(), 0
+        self.alone: set[Edit] = set()
+        self.bare: set[Edit] = set()
+        self.number = 0
         # Those whose notes lack stored answers that do not fit.
-        self.lack_answers = []
+        self.lack_answers: list[Edit] = []
         for edit in edits:
             if edit.fault:
                 self.end(edit, Outcome.BAD, edit.fault)
             else:
                 self.left.append(edit)
 
-    def end(self, edit, outcome, why):
+    def end(self, edit: Edit, outcome: Outcome, why: str) -> None:
         self.outcomes[edit] = outcome
-        self.tell(f"  {outcome.value}: {edit.label()} [{edit.where()}] in round {self.number}{': ' + why if why else ''}")
+        self.tell(
+            f"  {outcome.value}: {edit.label()} [{edit.where()}] in round {self.number}{': ' + why if why else ''}"
+        )
 
-    def group(self):
+    def group(self) -> list[Edit]:
         """As many edits as can be tried at once, or one alone that changes more than functions or is to be tried alone."""
-        found = []
+        found: list[Edit] = []
         for edit in self.left:
             if edit.is_outside or edit in self.alone:
                 if not found:
@@ -69,7 +76,7 @@ class Rounds:
                 found.append(edit)
         return found
 
-    def run(self):
+    def run(self) -> None:
         tried_alone = False
         while self.left:
             group = self.left[:1] if tried_alone else self.group()
@@ -80,15 +87,15 @@ class Rounds:
                 self.decide(group[0], Outcome.UNTOLD, "a function that it calls is not proved")
                 tried_alone = False
 
-    def without_valid_notes(self):
+    def without_valid_notes(self) -> list[Edit]:
         """The edits that had no notes or whose notes did not tell of them."""
         return [edit for edit in self.outcomes if edit not in self.by_itself | self.by_notes]
 
-    def decide(self, edit, outcome, why=""):
+    def decide(self, edit: Edit, outcome: Outcome, why: str = "") -> None:
         self.left.remove(edit)
         self.end(edit, outcome, why)
 
-    def beside(self, group):
+    def beside(self, group: list[Edit]) -> dict[Owner, goals.Beside]:
         """The answers with which each function that these change is tried."""
         found = {}
         for owner in set().union(*(edit.owners for edit in group)):
@@ -96,17 +103,21 @@ class Rounds:
             if any(edit in self.bare for edit in mine):
                 continue
             tried = [edit.tried for edit in mine if edit in self.by_itself]
-            passed_over = [goal for edit in mine if edit in self.by_itself | self.by_notes for goal in edit.passed_over()]
+            passed_over = [
+                goal for edit in mine if edit in self.by_itself | self.by_notes for goal in edit.passed_over()
+            ]
             taken_out = set().union(*(edit.taken_out for edit in mine)) - {*tried}
-            found[owner] = goals.Beside(self.work.crate, owner, tried, self.goals_among(owner, passed_over, taken_out), taken_out)
+            found[owner] = goals.Beside(
+                self.work.crate, owner, tried, self.goals_among(owner, passed_over, taken_out), taken_out
+            )
         return {owner: it for owner, it in found.items() if not it.is_by_hand}
 
-    def goals_among(self, owner, passed_over, taken_out):
+    def goals_among(self, owner: Owner, passed_over: list[str], taken_out: set[str]) -> list[str]:
         """Those of these names that are goals: a stored answer that is taken out may be a lemma of its file."""
         answered = answers.of_goals(goals.stored_answers(self.work.crate, owner))
         return [it for it in passed_over if it in answered or it not in taken_out]
 
-    def one_round(self, group):
+    def one_round(self, group: list[Edit]) -> int:
         """Tries these together, and returns how many were decided or are to be tried in another form."""
         beside = self.beside(group)
         texts = edit_files.together(group) | {file: text for it in beside.values() for file, text in it.texts().items()}
@@ -114,15 +125,23 @@ class Rounds:
         before = len(self.left)
         if not answer.reached_the_prover():
             return self.without_broken(group, answer)
-        reported = goals.reported_open(answer, lambda file, line: edit_files.owner_of_item(self.work.crate.folder, file, texts[file].split("\n"), line) if file in texts else None)
+
+        def owner_at(file: str, line: int) -> Owner | None:
+            text = texts.get(file)
+            return (
+                None if text is None else edit_files.owner_of_item(self.work.crate.folder, file, text.split("\n"), line)
+            )
+
+        reported = goals.reported_open(answer, owner_at)
         changed = 0
         for edit in group:
             changed += self.judge(edit, answer, reported, beside, is_shared(edit, group))
         return before - len(self.left) + changed
 
-    def without_broken(self, group, answer):
+    def without_broken(self, group: list[Edit], answer: Answer) -> int:
         """Takes out those that do not compile: those whose lines have an error, alone or beside another of their function, which is tried alone then. If no line of
-        theirs has one, each half is tried by itself. Returns how many were decided or are to be tried in another form."""
+        theirs has one, each half is tried by itself. Returns how many were decided or are to be tried in another form.
+        """
         errors = [error for error in answer.errors() if error.file.startswith("src/")]
         broken = [edit for edit in group if any(self.has_line(edit, group, error.file, error.line) for error in errors)]
         if len(group) == 1:
@@ -136,27 +155,38 @@ class Rounds:
             elif edit.is_outside and edit.owners and not errors:
                 self.decide(edit, Outcome.UNTOLD, "no function of the crate that uses it is checked")
             else:
-                why = next((error.said for error in errors if any(change.file == error.file for change in edit.changes)), "")
+                why = next(
+                    (error.said for error in errors if any(change.file == error.file for change in edit.changes)), ""
+                )
                 self.decide(edit, Outcome.BAD, "it does not compile" + why[:160])
         return len(broken)
 
-    def has_line(self, edit, group, file, line):
+    def has_line(self, edit: Edit, group: list[Edit], file: str, line: int) -> bool:
         """Whether a line of a file, as this round has it, is in a function that this edit changes."""
         lines = edit_files.together(group).get(file, "").split("\n")
         owner = edit_files.owner_of(edit.crate.folder, file, lines, line - 1)
         return owner in edit.owners and any(change.file == file for change in edit.changes)
 
-    def again(self, edit, *forms):
+    def again(self, edit: Edit, *forms: set[Edit]) -> int:
         """Has the edit tried again in another form."""
         for form in forms:
             form.add(edit)
         return 1
 
-    def judge(self, edit, answer, reported, beside, shares):
+    def judge(
+        self,
+        edit: Edit,
+        answer: Answer,
+        reported: dict[Owner | None, list[str]],
+        beside: dict[Owner, goals.Beside],
+        shares: bool,
+    ) -> int:
         """Decides an edit by what the round said of its functions; returns 1 if it is to be tried in another form."""
         if edit.is_outside and not edit.owners:
-            own = [text for text in answer.said.values() if not text.startswith("proved") and not HIDDEN.search(text)]
-            self.decide(edit, Outcome.PROVED if answer.status == 0 else Outcome.REFUSED if own else Outcome.UNTOLD)
+            others = [
+                text for text in answer.said.values() if not text.startswith("proved") and not HIDDEN.search(text)
+            ]
+            self.decide(edit, Outcome.PROVED if answer.status == 0 else Outcome.REFUSED if others else Outcome.UNTOLD)
             return 0
         said = [text for owner in edit.owners for text in owner.lines(edit.crate.name, answer.said)]
         is_hidden = any(HIDDEN.search(text) for text in said)
@@ -167,7 +197,10 @@ class Rounds:
             opened = {owner: [goal for goal in found if goal in edit.left_open] for owner, found in opened.items()}
             unfit = set()
         is_known = edit in self.by_notes and not unfit
-        own = {owner: found if is_known else self.right.closed(owner, edit.taken_out | unfit, found) for owner, found in opened.items()}
+        own = {
+            owner: found if is_known else self.right.closed(owner, edit.taken_out | unfit, found)
+            for owner, found in opened.items()
+        }
         if any(own.values()):
             self.refuse(edit, unfit, list(dict.fromkeys(goal for found in own.values() for goal in found)))
         elif any(text.startswith("could not tell") for text in said):
@@ -180,7 +213,11 @@ class Rounds:
             return self.take_out(edit, unfit)
         elif any(opened.values()) or self.has_errors(edit, answer):
             left = sorted({goal for found in opened.values() for goal in found})
-            self.decide(edit, Outcome.ANSWER, f"open in the right body too, without the same answers: {', '.join(left)}"[:200] if left else "")
+            self.decide(
+                edit,
+                Outcome.ANSWER,
+                f"open in the right body too, without the same answers: {', '.join(left)}"[:200] if left else "",
+            )
         elif is_hidden:
             return 0
         elif not said:
@@ -191,26 +228,47 @@ class Rounds:
             self.decide(edit, Outcome.PROVED if all(text.startswith("proved") for text in said) else Outcome.UNTOLD)
         return 0
 
-    def opened(self, edit, answer, reported, beside, said):
+    def opened(
+        self,
+        edit: Edit,
+        answer: Answer,
+        reported: dict[Owner | None, list[str]],
+        beside: dict[Owner, goals.Beside],
+        said: list[str],
+    ) -> tuple[dict[Owner, list[str]], set[str]]:
         """The goals of each function of an edit that are open, and the stored answers that do not fit."""
-        spoken = [goal for text in said for found in [OPEN.search(text)] if found for goal in goals.NAMED.findall(found[1].split(";")[0])]
+        spoken = [
+            goal
+            for text in said
+            for found in [OPEN.search(text)]
+            if found
+            for goal in goals.NAMED.findall(found[1].split(";")[0])
+        ]
         opened, unfit = {}, set()
         for owner in edit.owners:
-            holes, text = (beside[owner].holes, beside[owner].text()) if owner in beside else ([], goals.stored_answers(edit.crate, owner))
+            holes, text = (
+                (beside[owner].holes, beside[owner].text())
+                if owner in beside
+                else ([], goals.stored_answers(edit.crate, owner))
+            )
             errors = [error for error in answer.errors() if error.file == goals.answers_file(owner)]
             searched = [error for error in errors if answers.is_of_the_goal(text, error)]
-            found = [*spoken, *reported.get(owner, []), *(name for error in searched for name in answers.unfit(text, [error]))]
+            found = [
+                *spoken,
+                *reported.get(owner, []),
+                *(name for error in searched for name in answers.unfit(text, [error])),
+            ]
             opened[owner] = [goal for goal in dict.fromkeys(found) if goal not in holes and goal not in {goals.HOLE}]
             unfit |= answers.unfit(text, [error for error in errors if error not in searched]) - {*holes, goals.HOLE}
             if any(error.file == f"{owner.proofs()}/{goals.WHOLE_PROOF}" for error in answer.errors()):
                 unfit.add(goals.WHOLE_PROOF)
         return opened, unfit - edit.taken_out
 
-    def has_errors(self, edit, answer):
+    def has_errors(self, edit: Edit, answer: Answer) -> bool:
         """Whether what is written of the proofs of its functions has an error."""
         return any(error.file.startswith(owner.proofs() + "/") for owner in edit.owners for error in answer.errors())
 
-    def refuse(self, edit, unfit, own):
+    def refuse(self, edit: Edit, unfit: set[str], own: list[str]) -> None:
         if edit in self.by_notes and unfit:
             self.lack_answers.append(edit)
         edit.taken_out |= unfit
@@ -218,7 +276,7 @@ class Rounds:
         without = f", without the answers {', '.join(sorted(edit.taken_out))}" if edit.taken_out else ""
         self.decide(edit, Outcome.REFUSED, f"open: {', '.join(own)}{without}"[:200])
 
-    def judge_try(self, edit, answer, is_hidden):
+    def judge_try(self, edit: Edit, answer: Answer, is_hidden: bool) -> int:
         """Decides an edit whose goal was tried by itself: it is refused if no tactic found a proof; else all its goals are searched for."""
         owner = next(iter(edit.owners))
         failed = goals.failed_tries(answer, goals.answers_file(owner))
@@ -231,7 +289,7 @@ class Rounds:
         edit.taken_out = set()
         return 1
 
-    def without_notes(self, edit, is_hidden):
+    def without_notes(self, edit: Edit, is_hidden: bool) -> int:
         """Has an edit tried with all its goals if what it notes did not tell of it, or again as it is if a call hides it."""
         if is_hidden:
             return 0
@@ -239,7 +297,7 @@ class Rounds:
         edit.taken_out = set()
         return 1
 
-    def take_out(self, edit, unfit):
+    def take_out(self, edit: Edit, unfit: set[str]) -> int:
         """Has the edit tried again without the stored answers that do not fit, so that their goals are searched for."""
         edit.times_taken_out += 1
         if edit.times_taken_out > TIMES:

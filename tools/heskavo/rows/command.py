@@ -16,12 +16,10 @@ import subprocess
 import sys
 
 from heskavo.repository import CRATES, TOOLS
+from heskavo.rows import cost_runs, program_comparison, ring_rows, ring_scripts
+
 RINGS = CRATES / "rb_ring_rows"
 PROGRAMS = CRATES / "rb_program_rows"
-from heskavo.rows import cost_runs
-from heskavo.rows import program_comparison
-from heskavo.rows import ring_rows
-from heskavo.rows import ring_scripts
 
 # The number of scripts in one run of the program, and the number of differing rows that are printed.
 BATCH = 2000
@@ -33,7 +31,7 @@ def text_of(scripts):
     return "".join("".join(row + "\n" for row, _ in script) + "\n" for script in scripts)
 
 
-def answered(text, crate, program):
+def answered(text: str, crate, program):
     """Returns the answers of a program of rows: the built program or, if there is none, the crate's sources, without proof."""
     if program.exists():
         command, folder = [str(program)], None
@@ -58,7 +56,7 @@ def differences(scripts, program):
             yield number, *first
 
 
-def compare(count, seed, program):
+def compare(count: int, seed: int, program):
     different = rows = 0
     for begin in range(0, count, BATCH):
         scripts = [ring_scripts.drawn_script(seed, number) for number in range(begin, min(begin + BATCH, count))]
@@ -104,7 +102,9 @@ def run(asked: argparse.Namespace) -> int:
         case "ring":
             return compare(asked.count, asked.seed, asked.program)
         case "program":
-            return program_comparison.compare(asked.count, asked.seed, lambda text: answered(text, PROGRAMS, asked.program))
+            return program_comparison.compare(
+                asked.count, asked.seed, lambda text: answered(text, PROGRAMS, asked.program)
+            )
         case "costs":
             return cost_runs.compare(asked.checks, asked.runs, asked.seed, asked.rbhost)
         case _:

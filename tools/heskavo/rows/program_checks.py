@@ -15,7 +15,7 @@ MEMORY = ("context", "stack", "record")
 class Refused(Exception):
     """The rules that the instruction at a unit breaks."""
 
-    def __init__(self, rules, unit=None):
+    def __init__(self, rules, unit: int = None) -> None:
         super().__init__(rules)
         self.rules, self.unit = set(rules), unit
 
@@ -23,7 +23,7 @@ class Refused(Exception):
 class State:
     """What is known before an instruction."""
 
-    def __init__(self):
+    def __init__(self) -> None:
         self.values = [NOTHING] * 11
         self.values[1], self.values[10] = ("context", 0), ("stack", 0)
         self.held = {}
@@ -43,7 +43,7 @@ class State:
         return other
 
 
-def is_number(value):
+def is_number(value) -> bool:
     return value[0] in ("number", "known")
 
 
@@ -63,35 +63,35 @@ def joined(first, second):
     return both
 
 
-def refuse(*rules):
+def refuse(*rules) -> None:
     """Refuses for each rule whose condition holds."""
     broken = [rule for rule, holds in rules if holds]
     if broken:
         raise Refused(broken)
 
 
-def touched(offset, size):
+def touched(offset: int, size: int):
     """Returns the slots that have one of this many bytes of the stack from an offset on."""
     first = STACK + offset
     return range(first // 8, (first + size - 1) // 8 + 1) if size else range(0)
 
 
-def whole_place(offset, size):
+def whole_place(offset: int, size: int):
     return (STACK + offset) // 8 if size == 8 and (STACK + offset) % 8 == 0 else None
 
 
 class Verifier:
     """Verification for a context of this length and this number of rings."""
 
-    def __init__(self, context, rings):
+    def __init__(self, context, rings: int) -> None:
         self.context, self.rings = context, rings
 
-    def inside(self, state, pointer, size):
+    def inside(self, state, pointer, size: int):
         part, at = pointer[0], pointer[-1]
         low, high = {"context": (0, self.context), "stack": (-STACK, 0)}.get(part) or (0, state.held[pointer[1]][1])
         return low <= at and at + size <= high
 
-    def access_faults(self, state, base, offset, size):
+    def access_faults(self, state, base, offset: int, size: int):
         """Returns the rules that an access by this base breaks, and its pointer if it breaks none."""
         if base == NOTHING:
             return [1], None
@@ -102,7 +102,7 @@ class Verifier:
         pointer = (*base[:-1], base[-1] + offset)
         return ([], pointer) if self.inside(state, pointer, size) else ([4], pointer)
 
-    def step(self, unit, insn, state):
+    def step(self, unit: int, insn, state):
         """Returns what is known along the edge to the next instruction, and along a jump."""
         match insn.kind:
             case "number" | "ring" | "mov" | "binary" | "neg" | "end":
@@ -117,7 +117,12 @@ class Verifier:
                 after = self.called(unit, insn.imm, state)
             case "exit":
                 result = state.values[0]
-                refuse((10, state.held), (1, result == NOTHING), (12, result != NOTHING and not is_number(result)), (14, result[0] == "perhaps"))
+                refuse(
+                    (10, state.held),
+                    (1, result == NOTHING),
+                    (12, result != NOTHING and not is_number(result)),
+                    (14, result[0] == "perhaps"),
+                )
                 after = state
             case _:
                 after = state
@@ -186,8 +191,11 @@ class Verifier:
         rules, pointer = self.access_faults(state, base, insn.offset, insn.size)
         value = NUMBER if insn.kind == "store immediate" else state.values[insn.src]
         place = whole_place(pointer[1], insn.size) if pointer and pointer[0] == "stack" else None
-        refuse(*((rule, True) for rule in rules), (1, value == NOTHING),
-               (6, value != NOTHING and not is_number(value) and place is None))
+        refuse(
+            *((rule, True) for rule in rules),
+            (1, value == NOTHING),
+            (6, value != NOTHING and not is_number(value) and place is None),
+        )
         after = state.copy()
         if pointer[0] == "stack":
             for at in touched(pointer[1], insn.size):
@@ -200,7 +208,13 @@ class Verifier:
         first = state.values[insn.dst]
         second = ("known", insn.imm) if insn.src is None else state.values[insn.src]
         refuse((1, NOTHING in (first, second)))
-        if first[0] == "perhaps" and insn.src is None and insn.imm == 0 and insn.width == 64 and insn.op in ("eq", "ne"):
+        if (
+            first[0] == "perhaps"
+            and insn.src is None
+            and insn.imm == 0
+            and insn.width == 64
+            and insn.op in ("eq", "ne")
+        ):
             name = first[1]
             null = state.renamed(lambda value: ("known", 0) if value == first else value)
             del null.held[name]
@@ -216,7 +230,7 @@ class Verifier:
     def number_faults(self, value):
         return [1] if value == NOTHING else [7] if not is_number(value) else []
 
-    def called(self, unit, helper, state):
+    def called(self, unit: int, helper, state):
         if helper not in (OUTPUT, RESERVE, SUBMIT, DISCARD, QUERY):
             raise Refused([15])
         first, second, third, fourth = state.values[1:5]
@@ -227,7 +241,11 @@ class Verifier:
             rules = self.ring_faults(first) + self.number_faults(second)
         elif helper == RESERVE:
             sized = second[0] == "known" and second[1] <= LARGEST
-            rules = self.ring_faults(first) + ([1] if second == NOTHING else [] if sized else [8]) + self.number_faults(third)
+            rules = (
+                self.ring_faults(first)
+                + ([1] if second == NOTHING else [] if sized else [8])
+                + self.number_faults(third)
+            )
             rules += [9] if len(state.held) == 4 else []
             given = ("perhaps", unit)
         else:
@@ -245,7 +263,7 @@ class Verifier:
         after.values[0:6] = [given] + [NOTHING] * 5
         return after
 
-    def output_faults(self, state, memory, size):
+    def output_faults(self, state, memory, size: int):
         rules = []
         if memory == NOTHING:
             rules.append(1)
@@ -265,12 +283,12 @@ class Verifier:
         return rules
 
 
-def verified(code, context, rings):
+def verified(code, context, rings: int):
     """Returns the instructions of an accepted program; raises Fault if the bytes or the shape are refused, Refused if a rule is broken."""
     return annotated(code, context, rings)[0]
 
 
-def annotated(code, context, rings):
+def annotated(code, context, rings: int):
     """Returns the same, with what is known before each."""
     insns = decoded(code)
     shaped(insns)

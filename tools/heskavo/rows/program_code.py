@@ -8,9 +8,35 @@ MAX_UNITS = 4096
 
 # Classes, codes and sources (RFC 9669, sections 3 and 4).
 ALU, JMP, JMP32, ALU64 = 4, 5, 6, 7
-CODES = {0x0: "add", 0x1: "sub", 0x2: "mul", 0x3: "div", 0x4: "or", 0x5: "and", 0x6: "lsh", 0x7: "rsh", 0x8: "neg", 0x9: "mod",
-         0xA: "xor", 0xB: "mov", 0xC: "arsh", 0xD: "end"}
-CONDITIONS = {0x1: "eq", 0x2: "gt", 0x3: "ge", 0x4: "set", 0x5: "ne", 0x6: "sgt", 0x7: "sge", 0xA: "lt", 0xB: "le", 0xC: "slt", 0xD: "sle"}
+CODES = {
+    0x0: "add",
+    0x1: "sub",
+    0x2: "mul",
+    0x3: "div",
+    0x4: "or",
+    0x5: "and",
+    0x6: "lsh",
+    0x7: "rsh",
+    0x8: "neg",
+    0x9: "mod",
+    0xA: "xor",
+    0xB: "mov",
+    0xC: "arsh",
+    0xD: "end",
+}
+CONDITIONS = {
+    0x1: "eq",
+    0x2: "gt",
+    0x3: "ge",
+    0x4: "set",
+    0x5: "ne",
+    0x6: "sgt",
+    0x7: "sge",
+    0xA: "lt",
+    0xB: "le",
+    0xC: "slt",
+    0xD: "sle",
+}
 SIZES = {0x00: 4, 0x08: 2, 0x10: 1, 0x18: 8}
 JA, JA_FAR, CALL, CALL_REGISTER, EXIT, WIDE = 0x05, 0x06, 0x85, 0x8D, 0x95, 0x18
 PACKET = {0x20, 0x28, 0x30, 0x40, 0x48, 0x50}
@@ -39,13 +65,13 @@ class Insn:
         return 2 if self.kind in ("number", "ring") else 1
 
 
-def signed(number, bits):
+def signed(number: int, bits):
     """Returns the number of a two's complement of this many bits."""
     number &= (1 << bits) - 1
     return number - (1 << bits) if number >> (bits - 1) else number
 
 
-def field_checks(opcode, src_field, imm):
+def field_checks(opcode: int, src_field, imm: int):
     """Returns the kind of a first unit, and the values that its destination, source, offset and immediate allow: `reg`, `any`, or a set of numbers."""
     zero = {0}
     cls, code, by_register = opcode & 7, opcode >> 4, bool(opcode & 8)
@@ -81,7 +107,7 @@ def field_checks(opcode, src_field, imm):
     return None
 
 
-def arithmetic_checks(cls, op, by_register, imm):
+def arithmetic_checks(cls, op, by_register, imm: int):
     zero = {0}
     if op == "end":
         named = imm in (16, 32, 64) and not (cls == ALU64 and by_register)
@@ -91,18 +117,22 @@ def arithmetic_checks(cls, op, by_register, imm):
     if op == "mov" and by_register:
         return ("mov", "reg", "reg", {0, 8, 16} | ({32} if cls == ALU64 else set()), zero)
     offsets = {0, 1} if op in ("div", "mod") else zero
-    return ("mov" if op == "mov" else "binary", "reg", *(("reg", offsets, zero) if by_register else (zero, offsets, "any")))
+    return (
+        "mov" if op == "mov" else "binary",
+        "reg",
+        *(("reg", offsets, zero) if by_register else (zero, offsets, "any")),
+    )
 
 
-def insn_at(code, unit):
+def insn_at(code, unit: int):
     """Returns the instruction that begins at this unit; raises Fault if there is none."""
     at = 8 * unit
     opcode, registers = code[at], code[at + 1]
     dst, src = registers & 15, registers >> 4
-    offset = int.from_bytes(code[at + 2:at + 4], "little", signed=True)
-    imm = int.from_bytes(code[at + 4:at + 8], "little", signed=True)
+    offset = int.from_bytes(code[at + 2 : at + 4], "little", signed=True)
+    imm = int.from_bytes(code[at + 4 : at + 8], "little", signed=True)
 
-    def refuse(kind):
+    def refuse(kind) -> None:
         raise Fault(f"refused decode {kind} unit {unit}")
 
     checks = field_checks(opcode, src, imm)
@@ -116,7 +146,7 @@ def insn_at(code, unit):
     if any(isinstance(what, set) and number not in what for what, number in allowed):
         refuse("UnusedField")
     if kind in ("number", "ring"):
-        rest = code[at + 8:at + 16]
+        rest = code[at + 8 : at + 16]
         if len(rest) == 8 and (any(rest[:4]) or kind == "ring" and any(rest[4:])):
             refuse("UnusedField")
         if len(rest) < 8:
@@ -124,11 +154,19 @@ def insn_at(code, unit):
         if kind == "number":
             return Insn(kind, dst, imm=(imm & 0xFFFFFFFF) | int.from_bytes(rest[4:], "little") << 32)
         return Insn(kind, dst, imm=imm & 0xFFFFFFFF)
-    return Insn(kind, dst, src if checks[2] == "reg" else None, offset, imm & 0xFFFFFFFF if kind == "call" else imm,
-                64 if opcode & 7 in (ALU64, JMP) else 32, op_of(kind, opcode), SIZES[opcode & 0x18])
+    return Insn(
+        kind,
+        dst,
+        src if checks[2] == "reg" else None,
+        offset,
+        imm & 0xFFFFFFFF if kind == "call" else imm,
+        64 if opcode & 7 in (ALU64, JMP) else 32,
+        op_of(kind, opcode),
+        SIZES[opcode & 0x18],
+    )
 
 
-def op_of(kind, opcode):
+def op_of(kind, opcode: int):
     if kind == "branch":
         return CONDITIONS[opcode >> 4]
     if kind == "end":
@@ -159,7 +197,7 @@ def distance(insn):
     return {"jump": insn.offset, "branch": insn.offset, "jump far": insn.imm}.get(insn.kind)
 
 
-def edges(insns, unit):
+def edges(insns, unit: int):
     """Returns the units to which an instruction leads."""
     insn = insns[unit]
     ends = [unit + insn.units] if goes_on(insn) else []
@@ -168,7 +206,7 @@ def edges(insns, unit):
     return ends
 
 
-def shaped(insns):
+def shaped(insns) -> None:
     """Checks that the program is well shaped; raises Fault at its first fault."""
     units = max(insns) + insns[max(insns)].units
     reached, left = {0}, [0]
@@ -180,11 +218,13 @@ def shaped(insns):
     for unit, insn in insns.items():
         jump = distance(insn)
         target = None if jump is None else unit + 1 + jump
-        faults = (("Backward", jump is not None and jump < 0),
-                  ("OutOfProgram", target is not None and target >= units),
-                  ("IntoWide", target is not None and target not in insns),
-                  ("FallsOff", goes_on(insn) and unit + insn.units >= units),
-                  ("Unreachable", unit not in reached))
+        faults = (
+            ("Backward", jump is not None and jump < 0),
+            ("OutOfProgram", target is not None and target >= units),
+            ("IntoWide", target is not None and target not in insns),
+            ("FallsOff", goes_on(insn) and unit + insn.units >= units),
+            ("Unreachable", unit not in reached),
+        )
         for kind, holds in faults:
             if holds:
                 raise Fault(f"refused shape {kind} unit {unit}")

@@ -3,14 +3,21 @@ import collections
 import re
 
 from heskavo.rows.program_draws import drawn_rows
-from heskavo.rows.program_rows import answers_compute, answers_cost, answers_run, answers_shape, answers_units, answers_verify
+from heskavo.rows.program_rows import (
+    answers_compute,
+    answers_cost,
+    answers_run,
+    answers_shape,
+    answers_units,
+    answers_verify,
+)
 
 # The number of random programs in one run, and of the differing rows that are printed.
 BATCH = 2000
 SHOWN = 10
 
 
-def differences(first, drawn, lines):
+def differences(first, drawn, lines: list[str]):
     """Yields each row with a differing answer: the number of its program, the row, what the model allows, and the answer."""
     at = 0
     for number, rows in enumerate(drawn, first):
@@ -30,7 +37,7 @@ def outcome(rows):
     return " ".join(answer.split()[: 3 if "verify" in answer else 2]) if answer.startswith("refused") else "accepted"
 
 
-def compare(count, seed, answered):
+def compare(count: int, seed: int, answered):
     """Generates this many random programs, compares, and prints how many rows differ, and how the programs ended; returns 1 if one differs."""
     different = rows = 0
     outcomes = collections.Counter()
@@ -48,12 +55,12 @@ def compare(count, seed, answered):
     return 1 if different else 0
 
 
-def in_place(line, names):
+def in_place(line: str, names):
     """Returns the line with each name in braces replaced by its text."""
     return re.sub(r"\{(\w+)\}", lambda name: names.get(name[1], name[0]), line)
 
 
-def allowed_by_model(line):
+def allowed_by_model(line: str):
     """Returns the answers that the model allows for a row, or None if it does not cover the row."""
     word, _, rest = line.partition(" ")
     try:
@@ -70,7 +77,9 @@ def allowed_by_model(line):
                 return answers_cost(bytes.fromhex(program), int(context), int(rings))
             case "run":
                 context, rings, memory, given, program = rest.split(" ", 4)
-                return answers_run(bytes.fromhex(program), (int(context), int(rings)), bytes.fromhex(memory.strip("-")), given)
+                return answers_run(
+                    bytes.fromhex(program), (int(context), int(rings)), bytes.fromhex(memory.strip("-")), given
+                )
             case "compute":
                 dst, src, insn = rest.split(" ")
                 return answers_compute(int(dst, 0) % 2**64, int(src, 0) % 2**64, bytes.fromhex(insn))

@@ -32,7 +32,7 @@ def asked(insn, state):
     return state.values[1][1], state.values[2 if insn.imm == RESERVE else 3][1]
 
 
-def cost(code, context, rings):
+def cost(code, context, rings: int):
     """Returns steps and calls, and for each ring the records and bytes that are requested, and the records and bytes that are held."""
     insns, states = annotated(code, context, rings)
     steps = calls = 0
@@ -41,7 +41,16 @@ def cost(code, context, rings):
         steps = max(steps, len(path))
         calls = max(calls, sum(insns[unit].kind == "call" for unit in path))
         for ring in range(rings):
-            spans = [span(found[1]) for unit in path if (found := asked(insns[unit], states[unit])) and found[0] == ring]
+            spans = [
+                span(found[1]) for unit in path if (found := asked(insns[unit], states[unit])) and found[0] == ring
+            ]
             records[ring], sizes[ring] = max(records[ring], len(spans)), max(sizes[ring], sum(spans))
-    held = [[[span(size) for of_ring, size, _ in states[unit].held.values() if of_ring == ring] for unit in insns] for ring in range(rings)]
-    return steps, calls, [(records[ring], sizes[ring], max(map(len, held[ring])), max(map(sum, held[ring]))) for ring in range(rings)]
+    held = [
+        [[span(size) for of_ring, size, _ in states[unit].held.values() if of_ring == ring] for unit in insns]
+        for ring in range(rings)
+    ]
+    return (
+        steps,
+        calls,
+        [(records[ring], sizes[ring], max(map(len, held[ring])), max(map(sum, held[ring]))) for ring in range(rings)],
+    )

@@ -23,7 +23,7 @@ def answers_shape(code):
     return [f"shaped {len(code) // 8} units {code.hex()}"]
 
 
-def refusals(code, context, rings):
+def refusals(code, context, rings: int):
     """Returns the instructions of an accepted program, and the answers of a refused one: one for each rule that is broken."""
     if context > 65_536 or rings > 16:
         return None, ["out of bounds"]
@@ -39,14 +39,14 @@ def calls_of(insns):
     return sum(insn.kind == "call" for insn in insns.values())
 
 
-def answers_verify(code, context, rings):
+def answers_verify(code, context, rings: int):
     insns, answers = refusals(code, context, rings)
     if insns is None:
         return answers
     return [f"accepted units {len(code) // 8} calls {calls_of(insns)} context {context} rings {rings}"]
 
 
-def answers_cost(code, context, rings):
+def answers_cost(code, context, rings: int):
     """Returns the one answer of `cost`, or None if the program has too many paths to enumerate."""
     insns, answers = refusals(code, context, rings)
     if insns is None:
@@ -55,7 +55,10 @@ def answers_cost(code, context, rings):
         steps, calls, costs = cost(code, context, rings)
     except TooManyPaths:
         return None
-    each = (f"; ring {ring} records {records} bytes {size} held {held} {held_bytes}" for ring, (records, size, held, held_bytes) in enumerate(costs))
+    each = (
+        f"; ring {ring} records {records} bytes {size} held {held} {held_bytes}"
+        for ring, (records, size, held, held_bytes) in enumerate(costs)
+    )
     return [f"steps {steps} calls {calls}{''.join(each)}"]
 
 
@@ -75,7 +78,7 @@ def answers_run(code, limits, context, given):
     return ["; ".join([end, *run.calls, *([f"bytes {run.given_back.hex()}"] if run.given_back else [])])]
 
 
-def answers_compute(dst, src, code):
+def answers_compute(dst: int, src: int, code):
     insn = insn_at(code, 0)
     if insn.kind == "branch":
         return ["jumps" if jumps(insn, dst, src) else "goes on"]

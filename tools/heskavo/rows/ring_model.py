@@ -13,24 +13,24 @@ UNSIGNED_32 = (1 << 32) - 1
 NO_WAKEUP, FORCE_WAKEUP = 1, 2
 
 
-def span(length):
+def span(length: int):
     """Returns the span of a record: eight bytes for its header, and its bytes rounded up to a multiple of eight."""
     return 8 + (length + 7) // 8 * 8
 
 
-def is_size(size):
+def is_size(size: int) -> bool:
     return 4096 <= size <= 1 << 26 and size & (size - 1) == 0
 
 
-def is_start(start):
+def is_start(start: int) -> bool:
     return start % 8 == 0 and start <= 1 << 61
 
 
-def is_worker_count(workers):
+def is_worker_count(workers: int) -> bool:
     return 1 <= workers <= 256
 
 
-def refused_number(size, start, workers):
+def refused_number(size: int, start: int, workers: int):
     """Returns the first number that no ring can have, or None."""
     if not is_size(size):
         return "size"
@@ -39,7 +39,7 @@ def refused_number(size, start, workers):
     return None if is_worker_count(workers) else "workers"
 
 
-def is_due(consumer, pos, flags):
+def is_due(consumer, pos, flags: int) -> bool:
     if flags & FORCE_WAKEUP:
         return True
     return not flags & NO_WAKEUP and pos == consumer
@@ -85,7 +85,7 @@ class Reservation:
 
 
 class Tally:
-    def __init__(self, made=0, refused=0, submitted=0, discarded=0):
+    def __init__(self, made=0, refused=0, submitted=0, discarded=0) -> None:
         self.made, self.refused, self.submitted, self.discarded = made, refused, submitted, discarded
 
     def copy(self):
@@ -131,7 +131,7 @@ class Standing:
 class Chapter:
     """Some entries of a ring's history, with the state before them and the state after them."""
 
-    def __init__(self, room, workers, number=0, opening=None):
+    def __init__(self, room: int, workers: int, number: int = 0, opening=None) -> None:
         self.room, self.number, self.entries = room, number, []
         self.opening = opening or Standing(0, 0, 0, 0, [], [Tally() for _ in range(workers)])
         self.closing = self.opening.copy()
@@ -139,10 +139,10 @@ class Chapter:
     def owed(self):
         return sum(2 if record.status == "busy" else 1 for record in self.closing.records)
 
-    def has_room_for(self, entries):
+    def has_room_for(self, entries) -> bool:
         return len(self.entries) + self.owed() + entries <= self.room
 
-    def meets(self, other):
+    def meets(self, other) -> bool:
         return (
             other.number == self.number + 1
             and other.room == self.room
@@ -164,7 +164,7 @@ HANDS = 4
 class Ring:
     """One ring, the chapter that it keeps, and the records in the hands of its workers."""
 
-    def __init__(self, size, start, workers, room):
+    def __init__(self, size: int, start: int, workers: int, room: int) -> None:
         opening = Standing(size, start, start, start, [], [Tally() for _ in range(workers)])
         self.chapter = Chapter(room, workers, 0, opening)
         self.hands = [[None] * HANDS for _ in range(workers)]
@@ -174,13 +174,13 @@ class Ring:
     def now(self):
         return self.chapter.closing
 
-    def log(self, entry):
+    def log(self, entry) -> None:
         self.chapter.entries.append(entry)
 
-    def has_worker(self, worker):
+    def has_worker(self, worker: int) -> bool:
         return worker < len(self.now.tallies)
 
-    def grant(self, worker, length):
+    def grant(self, worker: int, length: int):
         """Returns the record that is granted, or the reason why none is."""
         now = self.now
         end = now.producer + span(length)
@@ -199,7 +199,7 @@ class Ring:
         now.producer = end
         return record
 
-    def settle(self, record, status, data=b""):
+    def settle(self, record, status, data=b"") -> None:
         record.status, record.data = status, data
         tally = self.now.tallies[record.worker]
         if status == "waiting":
@@ -216,11 +216,11 @@ class Ring:
                 return record
         return None
 
-    def full_hands(self, length):
+    def full_hands(self, length: int):
         """Returns the answer to a worker that holds as many records as it may."""
         return " fault: no free hand"
 
-    def reserve(self, worker, length):
+    def reserve(self, worker: int, length: int):
         """Puts a record into the lowest free hand of its worker."""
         hands = self.hands[worker]
         if None not in hands:
@@ -233,13 +233,13 @@ class Ring:
         hands[held.hand] = held.record
         return " granted" + answer.numbers() + " bytes" + runs(held.data), held
 
-    def is_out(self, held):
+    def is_out(self, held) -> bool:
         """Returns whether the hand that the reservation names has a record with its numbers."""
         worker = held.record.worker
         out = self.hands[worker][held.hand] if self.has_worker(worker) else None
         return out is not None and out.numbers() == held.record.numbers()
 
-    def end(self, held, status, flags):
+    def end(self, held, status, flags: int):
         if not self.is_out(held):
             return " stray" + held.record.numbers(), held
         record = self.busy_record(held.record)
@@ -248,7 +248,7 @@ class Ring:
         self.settle(record, status, bytes(held.data))
         return notice(due), None
 
-    def output(self, worker, data, flags):
+    def output(self, worker: int, data, flags: int):
         if flags > 3:
             return " refused flags back" + runs(data)
         due = is_due(self.now.consumer, self.now.producer, flags)
@@ -293,7 +293,9 @@ class Ring:
             if record.status == "discarded":
                 text += f"; skipped pos {record.pos} len {record.length}"
             else:
-                text += f"; event pos {record.pos} worker {record.worker} serial {record.serial} bytes" + runs(record.data)
+                text += f"; event pos {record.pos} worker {record.worker} serial {record.serial} bytes" + runs(
+                    record.data
+                )
         events = sum(record.status == "waiting" for record in items)
         return text + f"; events {events} sheets {events}"
 
@@ -322,8 +324,12 @@ class Ring:
             f" waiting {status.count('waiting')} busy {status.count('busy')}"
         )
 
-    def fits(self, empty):
-        return not empty.entries and empty.room == self.chapter.room and len(empty.opening.tallies) == len(self.now.tallies)
+    def fits(self, empty) -> bool:
+        return (
+            not empty.entries
+            and empty.room == self.chapter.room
+            and len(empty.opening.tallies) == len(self.now.tallies)
+        )
 
     def hand_out(self, empty):
         """Returns the chapter that is handed out, or None if the other one is unfit."""
@@ -340,7 +346,9 @@ class Ring:
         first = chapters[0].opening
         is_first = first.producer == first.consumer == first.start and not first.records and is_size(first.size)
         nothing = Tally().text()
-        is_first = is_first and not first.consumed and not first.skipped and all(t.text() == nothing for t in first.tallies)
+        is_first = (
+            is_first and not first.consumed and not first.skipped and all(t.text() == nothing for t in first.tallies)
+        )
         if not is_first or not all(one.meets(other) for one, other in zip(chapters, chapters[1:])):
             return " not bound opening"
         return entries_text([entry for chapter in chapters for entry in chapter.entries])
@@ -353,26 +361,26 @@ def handed_back(held):
 class SharedRing(Ring):
     """A ring with seats; each call of a seat is one call of a ring."""
 
-    def __init__(self, tag, size, start, workers, room):
+    def __init__(self, tag, size: int, start: int, workers: int, room: int) -> None:
         super().__init__(size, start, workers, room)
         self.tag = tag
 
-    def seat(self, worker):
+    def seat(self, worker: int):
         if not self.has_worker(worker):
             return " fault: no such worker"
         hands = "".join(" -" if out is None else f" {out.pos}" for out in self.hands[worker])
         return f" tag {self.tag} worker {worker}" + self.now.tallies[worker].text() + " hands" + hands
 
-    def full_hands(self, length):
+    def full_hands(self, length: int):
         return " refused hands full back" + runs(b"\xff" * length)
 
-    def reserve(self, worker, length):
+    def reserve(self, worker: int, length: int):
         answer, held = super().reserve(worker, length)
         if held:
             held.tag = self.tag
         return answer, held
 
-    def give_back(self, worker, held, status, flags):
+    def give_back(self, worker: int, held, status, flags: int):
         """Commits if the worker's hand that the reservation names has a record with its numbers, and hands the reservation back otherwise."""
         if held.tag != self.tag or held.record.worker != worker or not self.is_out(held):
             return handed_back(held), held
@@ -385,22 +393,28 @@ class SharedRing(Ring):
             f" consumed {now.consumed} skipped {now.skipped} chapters {self.chapter.number}"
         )
 
-    def audit(self, worker):
+    def audit(self, worker: int):
         now = self.now
-        return f" producer {now.producer} consumer {now.consumer}" + self.counts() + "; own" + now.tallies[worker].text()
+        return (
+            f" producer {now.producer} consumer {now.consumer}" + self.counts() + "; own" + now.tallies[worker].text()
+        )
 
     def used(self):
         return f" used {len(self.chapter.entries)} owed {self.chapter.owed()}"
 
     def totals(self):
         now = self.now
-        return f" tag {self.tag} producer {now.producer} consumer {now.consumer}" + self.counts() + f" chapter {self.chapter.number}"
+        return (
+            f" tag {self.tag} producer {now.producer} consumer {now.consumer}"
+            + self.counts()
+            + f" chapter {self.chapter.number}"
+        )
 
 
 class Keeper:
     """A chapter that replaces a ring's when that is nearly full, and is used again at the next turn."""
 
-    def __init__(self, chapter, margin):
+    def __init__(self, chapter, margin) -> None:
         self.chapter, self.margin, self.is_lent = chapter, margin, False
 
     def turn(self, ring):

@@ -8,7 +8,7 @@ from heskavo.rows.ring_model import WRONG_WORDS, Chapter, Keeper, Ring, SharedRi
 class Row:
     """A row in its parts, as the program's docs describe them: a verb, names, numbers, and bytes after a colon."""
 
-    def __init__(self, line):
+    def __init__(self, line: str) -> None:
         words, _, behind = line.partition(":")
         self.verb, self.names, self.numbers, self.data = "", [], [], bytearray()
         self.is_right = all(self.add_word(word) for word in words.split()) and all(map(self.add_run, behind.split()))
@@ -40,19 +40,19 @@ class Row:
         return self.verb, len(self.names), len(self.numbers)
 
 
-def narrow(number):
+def narrow(number: int):
     return min(number, model.UNSIGNED_32)
 
 
 class Script:
     """The named values of a script, and the answers to its rows."""
 
-    def __init__(self):
+    def __init__(self) -> None:
         self.rings, self.records, self.chapters = {}, {}, {}
         self.shared, self.shared_records, self.closed, self.tags = {}, {}, {}, 0
         self.keepers, self.sheets = {}, {}
 
-    def answer(self, line):
+    def answer(self, line: str):
         row = Row(line)
         if not row.is_right:
             return " fault: no word"
@@ -357,7 +357,9 @@ class Script:
         if (len(row.names), len(row.numbers)) not in ((1, 0), (1, 1), (2, 0)):
             return " " + WRONG_WORDS
         if row.names[1:]:
-            return " not all" if row.names[1] in self.shared and row.names[1] != row.names[0] else " fault: no such ring"
+            return (
+                " not all" if row.names[1] in self.shared and row.names[1] != row.names[0] else " fault: no such ring"
+            )
         if row.numbers:
             return " not all"
         ring = self.closed[row.names[0]] = self.shared.pop(row.names[0])
@@ -453,7 +455,7 @@ class Script:
         name = row.names[0]
         return self.zeros(name, len(self.sheets[name])) if name in self.sheets else " fault: no such sheet"
 
-    def zeros(self, name, length):
+    def zeros(self, name: str, length: int):
         self.sheets[name] = bytearray(length)
         return f" len {length} bytes" + model.runs(self.sheets[name])
 
@@ -464,7 +466,11 @@ class Script:
         if len(row.numbers) != 3:
             return " fault: no such command"
         size, start, workers = row.numbers
-        tests = [(model.is_size(size), "size"), (model.is_start(start), "start"), (model.is_worker_count(workers), "workers")]
+        tests = [
+            (model.is_size(size), "size"),
+            (model.is_start(start), "start"),
+            (model.is_worker_count(workers), "workers"),
+        ]
         refused = model.refused_number(size, start, workers)
         text = "".join(f" {word}" if holds else f" no {word}" for holds, word in tests)
         return text + (f" refused {refused}" if refused else " allowed")
@@ -500,7 +506,7 @@ class Script:
         return f" refused {refused}" if refused else read_tape(bytes(row.data), size, start)
 
 
-def read_tape(data, size, start):
+def read_tape(data, size: int, start: int):
     """Returns the records of a tape, what is wrong after them, and their number."""
     text, at, records = "", 0, 0
     while at < len(data):
@@ -512,7 +518,7 @@ def read_tape(data, size, start):
     return f"{text} records {records}"
 
 
-def front_of_tape(data, size, position):
+def front_of_tape(data, size: int, position: int):
     """Returns the first record of the rest of a tape: its fault, or its text and span."""
     if len(data) < 8:
         return "truncated", "", 0
@@ -537,7 +543,7 @@ def front_of_tape(data, size, position):
     return "", f" event pos {position} len {length} bytes{model.runs(payload)};", span
 
 
-def answers(text):
+def answers(text: str):
     """Returns what the program prints for these rows."""
     script, out = Script(), []
     for line in text.removesuffix("\n").split("\n"):

@@ -20,6 +20,7 @@ import sys
 import tempfile
 
 from heskavo.repository import ROOT
+
 CRATE = ROOT / "crates" / "rb_program_rows"
 ROWS = "## Assembly as LLVM's disassembler prints it"
 ACCEPTED = "## Accepted programs as LLVM's disassembler prints them"
@@ -42,25 +43,26 @@ JA, CALL, EXIT, WIDE = 0x05, 0x85, 0x95, 0x18
 ORDERS = (0xD4, 0xDC)
 LOADS = (0x61, 0x69, 0x71, 0x79)
 STORES = (0x63, 0x6B, 0x73, 0x7B)
-IMMEDIATES = (0, 1, -1, 5, -13, 2**31 - 1, -2**31)
-OFFSETS = (0, 1, -1, 8, -8, 2**15 - 1, -2**15)
+IMMEDIATES = (0, 1, -1, 5, -13, 2**31 - 1, -(2**31))
+OFFSETS = (0, 1, -1, 8, -8, 2**15 - 1, -(2**15))
 
 
-def unit(opcode, dst=0, src=0, offset=0, imm=0):
+def unit(opcode: int, dst: int = 0, src: int = 0, offset: int = 0, imm: int = 0):
     """The eight bytes of a unit."""
     return struct.pack("<BBhi", opcode, dst | src << 4, offset, imm)
 
 
 def kinds():
     """Returns a generator for each row that LLVM 14 knows: it takes a source of random numbers and returns an instruction's bytes."""
-    def reg(draw):
+
+    def reg(draw: random.Random):
         return draw.randint(0, 10)
 
-    def imm(draw):
-        return draw.choice((*IMMEDIATES, draw.randint(-2**31, 2**31 - 1)))
+    def imm(draw: random.Random):
+        return draw.choice((*IMMEDIATES, draw.randint(-(2**31), 2**31 - 1)))
 
-    def offset(draw):
-        return draw.choice((*OFFSETS, draw.randint(-2**15, 2**15 - 1)))
+    def offset(draw: random.Random):
+        return draw.choice((*OFFSETS, draw.randint(-(2**15), 2**15 - 1)))
 
     for width in (ALU, ALU64):
         for code in (*BINARY, DIV, MOV):
@@ -88,51 +90,63 @@ def rows():
     return [[make(draw)] for make in kinds()]
 
 
-def any_programs(draw):
+def any_programs(draw: random.Random):
     """Returns random programs of some instructions."""
     makers = list(kinds())
     return [[draw.choice(makers)(draw) for _ in range(draw.randint(2, 5))] for _ in range(PROGRAMS)]
 
 
-def computing(draw, numbers):
+def computing(draw: random.Random, numbers):
     """Returns an instruction that reads and writes only numbers in these registers, the context and the stack."""
-    dst, src, imm = draw.choice(numbers), draw.choice(numbers), draw.choice((*IMMEDIATES, draw.randint(-2**31, 2**31 - 1)))
+    dst, src, imm = (
+        draw.choice(numbers),
+        draw.choice(numbers),
+        draw.choice((*IMMEDIATES, draw.randint(-(2**31), 2**31 - 1))),
+    )
     width = draw.choice((ALU, ALU64))
     size, load, store = draw.choice(((8, 0x79, 0x7B), (4, 0x61, 0x63), (2, 0x69, 0x6B), (1, 0x71, 0x73)))
-    return draw.choice((
-        unit(draw.choice((*BINARY, DIV, MOV)) + width + X, dst, src),
-        unit(draw.choice((*BINARY, MOV)) + width + K, dst, imm=imm % 31 if imm % 2 else 5),
-        unit(draw.choice((DIV, MOV)) + width + K, dst, imm=imm or 1),
-        unit(NEG + width, dst),
-        unit(draw.choice(ORDERS), dst, imm=draw.choice((16, 32, 64))),
-        unit(WIDE, dst, imm=imm) + unit(0, imm=draw.choice(IMMEDIATES)),
-        unit(load, dst, 1, size * draw.randrange(CONTEXT // size)),
-        unit(store, 10, src, -size * draw.randint(1, STACK // size)),
-    ))
+    return draw.choice(
+        (
+            unit(draw.choice((*BINARY, DIV, MOV)) + width + X, dst, src),
+            unit(draw.choice((*BINARY, MOV)) + width + K, dst, imm=imm % 31 if imm % 2 else 5),
+            unit(draw.choice((DIV, MOV)) + width + K, dst, imm=imm or 1),
+            unit(NEG + width, dst),
+            unit(draw.choice(ORDERS), dst, imm=draw.choice((16, 32, 64))),
+            unit(WIDE, dst, imm=imm) + unit(0, imm=draw.choice(IMMEDIATES)),
+            unit(load, dst, 1, size * draw.randrange(CONTEXT // size)),
+            unit(store, 10, src, -size * draw.randint(1, STACK // size)),
+        )
+    )
 
 
-def accepted_program(draw):
+def accepted_program(draw: random.Random):
     """Returns an accepted program: numbers, some computation under forward jumps, sometimes a query, and the exit."""
     numbers = [0, *draw.sample((2, 3, 4, 5, 6, 7, 8, 9), 2)]
-    ahead = [unit(MOV + ALU64 + K, dst, imm=draw.randint(-2**31, 2**31 - 1)) for dst in numbers]
+    ahead = [unit(MOV + ALU64 + K, dst, imm=draw.randint(-(2**31), 2**31 - 1)) for dst in numbers]
     body = [computing(draw, numbers) for _ in range(draw.randint(2, 5))]
     skipped = sum(map(len, body)) // 8
     condition, width = draw.choice(CONDITIONS), draw.choice((JMP, JMP32))
-    jump = draw.choice((
-        unit(condition + width + K, draw.choice(numbers), 0, skipped, draw.choice(IMMEDIATES)),
-        unit(condition + width + X, draw.choice(numbers), draw.choice(numbers), skipped),
-        unit(JA),
-    ))
-    query = [unit(WIDE, 1, 5, imm=draw.randrange(RINGS)) + unit(0), unit(MOV + ALU64 + K, 2, imm=draw.randint(0, 4)), unit(CALL, imm=134)]
+    jump = draw.choice(
+        (
+            unit(condition + width + K, draw.choice(numbers), 0, skipped, draw.choice(IMMEDIATES)),
+            unit(condition + width + X, draw.choice(numbers), draw.choice(numbers), skipped),
+            unit(JA),
+        )
+    )
+    query = [
+        unit(WIDE, 1, 5, imm=draw.randrange(RINGS)) + unit(0),
+        unit(MOV + ALU64 + K, 2, imm=draw.randint(0, 4)),
+        unit(CALL, imm=134),
+    ]
     return [*ahead, jump, *body, *draw.choice(([], query)), unit(EXIT)]
 
 
-def accepted_programs(draw):
+def accepted_programs(draw: random.Random):
     """Returns random programs that are accepted."""
     return [accepted_program(draw) for _ in range(PROGRAMS)]
 
 
-def tool(name):
+def tool(name: str):
     """A program of LLVM."""
     return os.path.join(os.environ["LLVM"], name) if "LLVM" in os.environ else name
 
@@ -143,7 +157,9 @@ def disassembled(code):
         source, made = os.path.join(folder, "code.s"), os.path.join(folder, "code.o")
         pathlib.Path(source).write_text(".text\n" + "".join(f".byte {byte}\n" for byte in code))
         subprocess.run([tool("llvm-mc"), "-arch=bpf", "-filetype=obj", source, "-o", made], check=True)
-        text = subprocess.run([tool("llvm-objdump"), "-d", "-z", made], check=True, capture_output=True, text=True).stdout
+        text = subprocess.run(
+            [tool("llvm-objdump"), "-d", "-z", made], check=True, capture_output=True, text=True
+        ).stdout
     found = (re.match(r"\s*\d+:\t[0-9a-f ]+\t(.*)", line) for line in text.splitlines())
     plain = (re.sub(r" <\S*>$", "", row[1].replace("\t", " ")).strip() for row in found if row)
     return [re.sub(r"^ld_pseudo (r\d+), 5, (\d+)$", r"\1 = map_by_idx(\2)", row) for row in plain]
@@ -156,8 +172,8 @@ def texts(programs):
         sys.exit("compare-assembly: LLVM does not know every instruction: version 14 or newer is required")
     answers = []
     for program in programs:
-        answers.append(" ; ".join(left[:len(program)]))
-        left = left[len(program):]
+        answers.append(" ; ".join(left[: len(program)]))
+        left = left[len(program) :]
     return answers
 
 
@@ -166,7 +182,7 @@ def hex_of(program):
     return "".join(insn.hex() for insn in program)
 
 
-def section(lines, heading):
+def section(lines: list[str], heading):
     """Returns where the rows under a heading begin and end: after its comments, up to an empty line."""
     start = next(at for at, line in enumerate(lines) if line.startswith(heading))
     while lines[start].startswith("#"):
@@ -174,11 +190,13 @@ def section(lines, heading):
     return start, lines.index("", start)
 
 
-def write(heading, programs):
+def write(heading, programs) -> None:
     """Writes the rows of some programs, and their answers."""
     row, answer = FRONTS[heading]
-    rows_and_answers = {"stdin": [row + hex_of(program) for program in programs],
-                        "stdout": [answer + text for text in texts(programs)]}
+    rows_and_answers = {
+        "stdin": [row + hex_of(program) for program in programs],
+        "stdout": [answer + text for text in texts(programs)],
+    }
     for name, made in rows_and_answers.items():
         lines = (CRATE / name).read_text().split("\n")
         start, end = section(lines, heading)
@@ -193,11 +211,13 @@ def make():
     return 0
 
 
-def answered(lines):
+def answered(lines: list[str]):
     """Returns the program's answers to rows, by the built program or, if there is none, by the sources, without proof."""
     built = CRATE / "out" / "rb_program_rows"
     command = [str(built)] if built.exists() else ["rt", "try"]
-    run = subprocess.run(command, input="".join(line + "\n" for line in lines), cwd=CRATE, check=True, capture_output=True, text=True)
+    run = subprocess.run(
+        command, input="".join(line + "\n" for line in lines), cwd=CRATE, check=True, capture_output=True, text=True
+    )
     return run.stdout.splitlines()
 
 
@@ -221,7 +241,7 @@ def instructions(code):
     at = 0
     while at < len(code):
         length = 16 if code[at] == WIDE else 8
-        yield code[at:at + length]
+        yield code[at : at + length]
         at += length
 
 
@@ -255,8 +275,21 @@ def compare():
 def add_arguments(parser: argparse.ArgumentParser) -> None:
     """Adds the modes."""
     modes = parser.add_mutually_exclusive_group()
-    modes.add_argument("--make", action="store_const", dest="action", const=make, default=compare, help="write the rows and their answers again")
-    modes.add_argument("--random", action="store_const", dest="action", const=random_programs, help="compare rb_program_rows with llvm-objdump on 200 other programs of each kind")
+    modes.add_argument(
+        "--make",
+        action="store_const",
+        dest="action",
+        const=make,
+        default=compare,
+        help="write the rows and their answers again",
+    )
+    modes.add_argument(
+        "--random",
+        action="store_const",
+        dest="action",
+        const=random_programs,
+        help="compare rb_program_rows with llvm-objdump on 200 other programs of each kind",
+    )
 
 
 def run(asked: argparse.Namespace) -> int:

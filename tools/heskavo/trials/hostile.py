@@ -19,6 +19,7 @@ import tempfile
 import time
 
 from heskavo.repository import ROOT, proved_program
+
 SECONDS = 120
 SUBMIT_42 = (ROOT / "examples" / "submit_42.hex").read_bytes()
 PAYLOADS = struct.pack("<I", 8) + bytes(range(8))
@@ -40,7 +41,7 @@ COMMANDS = {
 class Ending:
     """How a program ended, and what it wrote to its outputs."""
 
-    def __init__(self, status, output, errors):
+    def __init__(self, status, output, errors) -> None:
         self.status, self.output, self.errors = status, output, errors
 
     def words(self):
@@ -51,11 +52,16 @@ class Ending:
             return f"signal {-self.status}"
         return f"status {self.status} {self.errors.decode(errors='replace').strip()[:60]}"
 
-    def is_refusal(self):
+    def is_refusal(self) -> bool:
         """Returns whether it printed one line `refused ..`, with status 1."""
-        return self.status == 1 and self.errors.startswith(b"refused ") and self.errors.count(b"\n") == 1 and self.errors.endswith(b"\n")
+        return (
+            self.status == 1
+            and self.errors.startswith(b"refused ")
+            and self.errors.count(b"\n") == 1
+            and self.errors.endswith(b"\n")
+        )
 
-    def has_whole_lines(self):
+    def has_whole_lines(self) -> bool:
         """Returns whether standard output is empty or consists of whole lines."""
         return not self.output or self.output.endswith(b"\n")
 
@@ -128,7 +134,9 @@ def with_little_memory(megabytes):
     def trial(program, command, given=None):
         limit = megabytes << 20
         given = COMMANDS[command] if given is None else given
-        return run_program(program, command, input=given, preexec_fn=lambda: resource.setrlimit(resource.RLIMIT_AS, (limit, limit)))
+        return run_program(
+            program, command, input=given, preexec_fn=lambda: resource.setrlimit(resource.RLIMIT_AS, (limit, limit))
+        )
 
     return trial
 
@@ -145,7 +153,7 @@ def piped(program, command, maker):
     return ending, int(counted)
 
 
-def check_each(program, table):
+def check_each(program, table) -> None:
     """Runs every command with every failing stream: it must print its refusal, or succeed if nothing had to be written."""
     trials = {
         "a terminal that closes": from_terminal_that_closes,
@@ -167,35 +175,53 @@ def check_each(program, table):
             table.append((command, what, ending.words(), well))
 
 
-def check_memory(program, table):
+def check_memory(program, table) -> None:
     """A list of jobs that is too long for the memory, with each form of a refusal; the file of the tape is unchanged."""
-    reason, line, told = b"there is not enough memory: the list of 4000000 jobs alone takes 208000000 bytes\n", b"refused memory\n", b'{"refused":"memory"}\n'
+    reason, line, told = (
+        b"there is not enough memory: the list of 4000000 jobs alone takes 208000000 bytes\n",
+        b"refused memory\n",
+        b'{"refused":"memory"}\n',
+    )
     because = told[:-2] + b',"why":"' + reason[:-1] + b'"}\n'
-    forms = {"": (b"", line), " --why": (b"", reason + line), " --json": (told, line), " --json --why": (because, reason + line)}
+    forms = {
+        "": (b"", line),
+        " --why": (b"", reason + line),
+        " --json": (told, line),
+        " --json --why": (because, reason + line),
+    }
     with tempfile.TemporaryDirectory() as folder:
         kept = pathlib.Path(folder) / "t"
         kept.write_bytes(b"kept")
         for form, wanted in forms.items():
-            ending = with_little_memory(64)(program, f"run --workers 4 --jobs 1000000 --size 4096 --tape {kept}{form}", SUBMIT_42)
+            ending = with_little_memory(64)(
+                program, f"run --workers 4 --jobs 1000000 --size 4096 --tape {kept}{form}", SUBMIT_42
+            )
             well = ending.status == 1 and (ending.output, ending.errors) == wanted and kept.read_bytes() == b"kept"
             table.append((f"run --workers 4 --jobs 1000000{form}", "64 MB of memory", ending.words(), well))
 
 
-def is_beginning(program, tape):
+def is_beginning(program, tape) -> bool:
     """Returns whether a file is a prefix of a tape of records of 8 bytes, in a ring of 64 KiB: whole ones, and possibly a truncated last one."""
     data = tape.read_bytes()
     ending = run_program(program, "tape --size 65536", input=data)
     lines = [b"pos %d len 8 2a00000000000000\n" % at for at in range(0, len(data) // 16 * 16, 16)]
     cut = b"refused Truncated at %d\n" % (len(data) // 16 * 16)
-    return ending.output == b"".join(lines) and (ending.status, ending.errors) == ((1, cut) if len(data) % 16 else (0, b""))
+    return ending.output == b"".join(lines) and (ending.status, ending.errors) == (
+        (1, cut) if len(data) % 16 else (0, b"")
+    )
 
 
-def check_interrupt(program, table):
+def check_interrupt(program, table) -> None:
     """A run that is interrupted from the keyboard after its tape has begun."""
     command = "run --workers 4 --jobs 1000000 --size 65536"
     with tempfile.TemporaryDirectory() as folder:
         tape = pathlib.Path(folder) / "t"
-        process = subprocess.Popen([program, *command.split(), "--tape", str(tape)], stdin=subprocess.PIPE, stdout=subprocess.PIPE, stderr=subprocess.PIPE)
+        process = subprocess.Popen(
+            [program, *command.split(), "--tape", str(tape)],
+            stdin=subprocess.PIPE,
+            stdout=subprocess.PIPE,
+            stderr=subprocess.PIPE,
+        )
         process.stdin.write(SUBMIT_42)
         process.stdin.close()
         while process.poll() is None and not (tape.exists() and tape.stat().st_size):
@@ -205,11 +231,24 @@ def check_interrupt(program, table):
         output, errors = process.stdout.read(), process.stderr.read()
         process.wait(timeout=SECONDS)
         took, length = time.monotonic() - began, tape.stat().st_size
-        well = process.returncode == -signal.SIGINT and took < 1 and not output and not errors and is_beginning(program, tape)
-        table.append((command, "Ctrl-C", f"signal {-process.returncode} after {took * 1000:.0f} ms, {length} bytes of tape", well))
+        well = (
+            process.returncode == -signal.SIGINT
+            and took < 1
+            and not output
+            and not errors
+            and is_beginning(program, tape)
+        )
+        table.append(
+            (
+                command,
+                "Ctrl-C",
+                f"signal {-process.returncode} after {took * 1000:.0f} ms, {length} bytes of tape",
+                well,
+            )
+        )
 
 
-def check_wide_record(program, table):
+def check_wide_record(program, table) -> None:
     """A run whose record fills three quarters of its ring: its tape is whole, and no failure is reported."""
     wide = SUBMIT_42.replace((8).to_bytes(4, "little").hex().encode(), (3000).to_bytes(4, "little").hex().encode(), 1)
     command = "run --workers 1 --jobs 1 --size 4096"
@@ -217,10 +256,17 @@ def check_wide_record(program, table):
         tape = pathlib.Path(folder) / "t"
         ending = run_program(program, f"{command} --tape {tape}", input=wide)
         whole = (3000).to_bytes(8, "little") + (42).to_bytes(3000, "little")
-        table.append((command, "a record of 3,000 bytes", ending.words(), ending.status == 0 and not ending.errors and tape.read_bytes() == whole))
+        table.append(
+            (
+                command,
+                "a record of 3,000 bytes",
+                ending.words(),
+                ending.status == 0 and not ending.errors and tape.read_bytes() == whole,
+            )
+        )
 
 
-def check_texts(program, table):
+def check_texts(program, table) -> None:
     """Program texts that are not programs."""
     texts = {
         "a NUL in the text": b"95\0" + SUBMIT_42,
@@ -233,7 +279,9 @@ def check_texts(program, table):
             if command.split()[0] in ("feed", "tape"):
                 continue
             ending = run_program(program, command, input=text)
-            table.append((command, what, ending.words(), ending.is_refusal() and (command == "explain" or not ending.output)))
+            table.append(
+                (command, what, ending.words(), ending.is_refusal() and (command == "explain" or not ending.output))
+            )
 
 
 def digits_of_positions(end):
@@ -245,7 +293,7 @@ def digits_of_positions(end):
     return total + 1
 
 
-def adds_up(report, errors, workers, jobs):
+def adds_up(report, errors, workers: int, jobs: int) -> bool:
     """Returns whether the numbers of a run's workers add up to those of its ring, and together with the report on standard error to all jobs."""
     lines = [line.split() for line in report.splitlines()]
     told = [(int(line[3]), int(line[5])) for line in lines if line[0] == "worker"]
@@ -261,7 +309,7 @@ def adds_up(report, errors, workers, jobs):
     )
 
 
-def check_sizes(program, table):
+def check_sizes(program, table) -> None:
     """Inputs of 1 GB, and the maximal number of workers."""
     gigabyte = 1 << 30
     payload = "struct.pack('<I', 1020) + bytes(1020)"
@@ -273,18 +321,30 @@ def check_sizes(program, table):
     lines = gigabyte // 8 * len("pos  len 0 -\n") + digits_of_positions(gigabyte)
     table.append(("tape --size 4096", "1 GB of empty records", ending.words(), ending.status == 0 and count == lines))
     for command in ("check", "explain", "cost"):
-        for what, made in (("1 GB of spaces", f"head -c {gigabyte} /dev/zero | tr '\\0' ' '"), ("1 GB of digits", f"head -c {gigabyte} /dev/zero | tr '\\0' 9")):
+        for what, made in (
+            ("1 GB of spaces", f"head -c {gigabyte} /dev/zero | tr '\\0' ' '"),
+            ("1 GB of digits", f"head -c {gigabyte} /dev/zero | tr '\\0' 9"),
+        ):
             ending, _ = piped(program, command, made)
             table.append((command, what, ending.words(), ending.is_refusal()))
     command = "run --workers 256 --jobs 10000 --size 1048576"
     ending = run_program(program, command, input=SUBMIT_42)
-    table.append((command, "256 workers with 10,000 jobs", ending.words(), ending.status == 0 and adds_up(ending.output.decode(), ending.errors.decode(), 256, 10000)))
+    table.append(
+        (
+            command,
+            "256 workers with 10,000 jobs",
+            ending.words(),
+            ending.status == 0 and adds_up(ending.output.decode(), ending.errors.decode(), 256, 10000),
+        )
+    )
 
 
 def add_arguments(parser: argparse.ArgumentParser) -> None:
     """Adds the program."""
     default = proved_program("rbhost")
-    parser.add_argument("program", metavar="PROGRAM", nargs="?", default=str(default), help="a built rbhost; by default the gate's")
+    parser.add_argument(
+        "program", metavar="PROGRAM", nargs="?", default=str(default), help="a built rbhost; by default the gate's"
+    )
 
 
 def run(asked: argparse.Namespace) -> int:

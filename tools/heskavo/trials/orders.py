@@ -17,6 +17,7 @@ import subprocess
 import sys
 
 from heskavo.repository import ROOT, proved_program
+
 SIZE = 4096
 
 # The results below a state are cached if at most this many steps are left.
@@ -62,8 +63,20 @@ CASES = [
     Case("three discard, by calls, three takes", 3, 0, 0, [(BY_CALLS, DISCARD_42)] * 3),
     Case("three discard, room for one, by calls, three takes", 3, 0, 0, [(BY_CALLS, DISCARD_WIDE)] * 3),
     Case("three discard, room for one, around calls, a take after each", 0, 1, 0, [(AROUND_CALLS, DISCARD_WIDE)] * 3),
-    Case("submit, discard, output, by calls, three takes", 3, 0, 0, [(BY_CALLS, SUBMIT_42), (BY_CALLS, DISCARD_42), ([8], OUTPUT_43)]),
-    Case("two submit beside a busy record, by calls, three takes", 3, 0, 0, [([4], SUBMIT_42)] + [(BY_CALLS, SUBMIT_42)] * 2),
+    Case(
+        "submit, discard, output, by calls, three takes",
+        3,
+        0,
+        0,
+        [(BY_CALLS, SUBMIT_42), (BY_CALLS, DISCARD_42), ([8], OUTPUT_43)],
+    ),
+    Case(
+        "two submit beside a busy record, by calls, three takes",
+        3,
+        0,
+        0,
+        [([4], SUBMIT_42)] + [(BY_CALLS, SUBMIT_42)] * 2,
+    ),
     Case("three submit and discard, by calls, two takes", 2, 0, 0, [([4, 6, 4, 6], TWO_RECORDS)] * 3),
 ]
 
@@ -77,12 +90,12 @@ AGAIN = (1 << 64) - 11
 STACK = 512
 
 
-def span(length):
+def span(length: int):
     """Returns the bytes of the ring that a record takes: its header and its payload, rounded up to a multiple of eight."""
     return (length + 15) // 8 * 8
 
 
-def reserve(ring, worker, length):
+def reserve(ring, worker: int, length: int):
     """Returns the ring after a reservation, and the record's index in the list, or None if there is no room."""
     end = ring.producer + span(length)
     if end - ring.consumer > SIZE - 1:
@@ -105,20 +118,23 @@ def take(ring):
         return ring
     record = ring.records[ring.front]
     if record.status == "waiting":
-        found, status = f" took {record.position} {record.worker} {record.serial} {record.length} {record.data.hex()}", "consumed"
+        found, status = (
+            f" took {record.position} {record.worker} {record.serial} {record.length} {record.data.hex()}",
+            "consumed",
+        )
     else:
         found, status = f" skipped {record.position} {record.length}", "discarded"
     ring = change(ring, ring.front, status=status)
     return ring._replace(consumer=record.position + span(record.length), front=ring.front + 1, taken=ring.taken + found)
 
 
-def put(data, offset, value):
+def put(data, offset: int, value):
     """Returns bytes with eight of them replaced at an offset, without trailing zeros."""
     data = data.ljust(offset + 8, b"\0")
     return (data[:offset] + struct.pack("<q", value) + data[offset + 8 :]).rstrip(b"\0")
 
 
-def call(number, ring, worker, own):
+def call(number: int, ring, worker: int, own):
     """Returns the effect of a helper call: the ring after it, and the value of register 0."""
     first, second = own.registers[1], own.registers[2]
     if number == 130:
@@ -135,13 +151,13 @@ def call(number, ring, worker, own):
 
 
 @functools.lru_cache(None)
-def unit_of(program, unit):
+def unit_of(program, unit: int):
     """A unit of a program: operation, destination, source, offset and immediate."""
     operation, registers, offset, immediate = struct.unpack("<BBhi", bytes.fromhex(program[16 * unit : 16 * unit + 16]))
     return operation, registers & 15, registers >> 4, offset, immediate
 
 
-def turn(program, ring, worker, own):
+def turn(program, ring, worker: int, own):
     """Returns the ring and the worker after one instruction; a worker whose program has ended has its result instead of its registers."""
     if own.unit is None:
         return ring, own
@@ -263,7 +279,9 @@ def compare(program, case):
 def add_arguments(parser: argparse.ArgumentParser) -> None:
     """Adds the program."""
     default = proved_program("rb_trials")
-    parser.add_argument("program", metavar="PROGRAM", nargs="?", default=str(default), help="a built rb_trials; by default the gate's")
+    parser.add_argument(
+        "program", metavar="PROGRAM", nargs="?", default=str(default), help="a built rb_trials; by default the gate's"
+    )
 
 
 def run(asked: argparse.Namespace) -> int:

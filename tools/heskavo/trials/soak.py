@@ -26,6 +26,7 @@ import tempfile
 import time
 
 from heskavo.repository import ROOT
+
 WORKERS = (1, 2, 3, 4, 16, 64, 256)
 SIZES = (4096, 8192, 65536, 1048576)
 JOBS = 100000
@@ -71,7 +72,7 @@ class Difference(Exception):
     """The output differs from the report."""
 
 
-def expect(holds, what):
+def expect(holds, what) -> None:
     """Ends the soak if a condition does not hold."""
     if not holds:
         raise Difference(what)
@@ -80,7 +81,9 @@ def expect(holds, what):
 def run_program(program, words, given):
     """Runs a command that must succeed over a file. Returns its output, its standard error of at most one line, and its peak memory in bytes."""
     with open(given, "rb") as standard_input:
-        child = subprocess.Popen([program] + words, stdin=standard_input, stdout=subprocess.PIPE, stderr=subprocess.PIPE)
+        child = subprocess.Popen(
+            [program] + words, stdin=standard_input, stdout=subprocess.PIPE, stderr=subprocess.PIPE
+        )
     output, told = child.stdout.read(), child.stderr.read()
     _, status, used = os.wait4(child.pid, 0)
     child.returncode = status
@@ -88,7 +91,7 @@ def run_program(program, words, given):
     return output.decode(), told.decode(), used.ru_maxrss * 1024
 
 
-def told_by(report, errors, workers, jobs):
+def told_by(report, errors, workers: int, jobs: int):
     """Checks the report's own sums, and returns each worker's numbers; the count on standard error is that of the jobs that are in none of them."""
     lines = report.splitlines()
     expect(len(lines) == workers + 2, "the report has a different number of lines")
@@ -111,7 +114,7 @@ def told_by(report, errors, workers, jobs):
     return told
 
 
-def check_tape(lines, told, start):
+def check_tape(lines: list[str], told, start: int) -> None:
     """Compares each record of the tape with the workers' numbers."""
     position, discarded = start, 0
     taken, last = collections.Counter(), collections.defaultdict(lambda: -1)
@@ -133,7 +136,7 @@ def check_tape(lines, told, start):
         expect(taken[worker] == one.submitted, f"a different number of records of worker {worker}")
 
 
-def soak_once(program, folder, workers, size):
+def soak_once(program, folder, workers: int, size: int):
     """Makes one run and checks it. Returns the number of its records, and its peak memory."""
     jobs = max(1, JOBS // workers)
     start = 8 * random.randrange(1 << 40)
@@ -141,7 +144,9 @@ def soak_once(program, folder, workers, size):
     with open(text, "wb") as file:
         file.write(PROGRAM)
     place = ["--size", str(size), "--start", str(start)]
-    report, errors, memory = run_program(program, ["run", "--workers", str(workers), "--jobs", str(jobs)] + place + ["--tape", tape], text)
+    report, errors, memory = run_program(
+        program, ["run", "--workers", str(workers), "--jobs", str(jobs)] + place + ["--tape", tape], text
+    )
     told = told_by(report, errors, workers, jobs)
     lines, _, _ = run_program(program, ["tape"] + place, tape)
     check_tape(lines.splitlines(), told, start)
@@ -160,7 +165,7 @@ def check_library(words, status, output, errors):
     return made
 
 
-def soak_library(program, kind, steps, seed):
+def soak_library(program, kind, steps, seed: int):
     """Makes one run of rb_trials soak and checks it. Returns the number of its records, and its peak memory."""
     words = [str(number) for number in kind + (steps, seed)]
     child = subprocess.Popen([program, "soak"] + words, stdout=subprocess.PIPE, stderr=subprocess.PIPE)
@@ -180,7 +185,7 @@ def memory_of(process):
     return int(found[1]) * 1024 if found else None
 
 
-def soak_long(program, seconds, seed):
+def soak_long(program, seconds, seed: int):
     """Makes a run of about this many seconds. Returns the number of its records, and its memory, read once a second."""
     start = time.monotonic()
     soak_library(program, LONG, TIMED_STEPS, seed)
@@ -197,7 +202,7 @@ def soak_long(program, seconds, seed):
     return made, readings
 
 
-def check_memory(readings):
+def check_memory(readings) -> None:
     """Checks that the memory does not grow, by one reading per second."""
     begin = min(60, len(readings) // 3)
     at_begin, most = max(readings[: begin + 1]), max(readings[begin:])
@@ -219,20 +224,22 @@ def rounds(host, library, folder):
             for rings in RINGS:
                 for room in ROOMS:
                     if workers * rings <= MOST_THREADS:
-                        yield f"library workers {workers:3} rings {rings} room {room:5}", library_round(library, workers, rings, room)
+                        yield f"library workers {workers:3} rings {rings} room {room:5}", library_round(
+                            library, workers, rings, room
+                        )
 
 
-def library_round(library, workers, rings, room):
+def library_round(library, workers: int, rings: int, room: int):
     """Returns a function that makes one run of this kind, over a ring of random size."""
 
-    def call(seed):
+    def call(seed: int):
         kind = (workers, rings, random.choice(SIZES), room)
         return soak_library(library, kind, max(1, STEPS[room] // workers // rings), seed)
 
     return call
 
 
-def soak(calls, seconds):
+def soak(calls, seconds) -> None:
     """Makes runs of random kinds for this many seconds, and prints a line for each kind."""
     runs, records, most = collections.Counter(), collections.Counter(), collections.Counter()
     end = time.monotonic() + seconds
@@ -248,7 +255,7 @@ def soak(calls, seconds):
     print(f"{sum(runs.values())} runs, {sum(records.values())} records, no difference")
 
 
-def program_at(given, name):
+def program_at(given, name: str):
     """Returns the program if it can be run, or None."""
     path = given or str(ROOT / "crates" / name / "out" / name)
     return path if os.access(path, os.X_OK) else None

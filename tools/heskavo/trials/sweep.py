@@ -23,6 +23,7 @@ import sys
 import tempfile
 
 from heskavo.repository import ROOT, proved_program
+
 SECONDS = 60
 SUBMIT_42 = (ROOT / "examples" / "submit_42.hex").read_bytes()
 PAYLOADS = b"".join(struct.pack("<I", n) + bytes(range(n)) for n in range(100))
@@ -78,7 +79,14 @@ def run_program(program, library, command, given, call):
     reader, writer = os.pipe()
     settings = dict(os.environ, LD_PRELOAD=library, REFUSED_CALL=str(call), REFUSED_STREAM=str(writer))
     try:
-        done = subprocess.run([program] + command.split(), input=given, capture_output=True, env=settings, pass_fds=[writer], timeout=SECONDS)
+        done = subprocess.run(
+            [program] + command.split(),
+            input=given,
+            capture_output=True,
+            env=settings,
+            pass_fds=[writer],
+            timeout=SECONDS,
+        )
         ending = (done.returncode, done.stdout, done.stderr)
     except subprocess.TimeoutExpired:
         ending = (None, b"", b"")
@@ -87,38 +95,40 @@ def run_program(program, library, command, given, call):
         return Ending(bool(told.read()), *ending)
 
 
-def is_refused(ending):
+def is_refused(ending) -> bool:
     """Returns whether memory was refused, by its line, with `--why` after its reason."""
     return ending.status == 1 and ending.errors.removeprefix(b"there is not enough memory\n") == b"refused memory\n"
 
 
-def is_beginning(ending, whole):
+def is_beginning(ending, whole) -> bool:
     """Returns whether memory was refused, and the output is a prefix of the whole answer."""
     return is_refused(ending) and whole.startswith(ending.output)
 
 
-def is_text(ending, whole):
+def is_text(ending, whole) -> bool:
     """Returns whether it is the whole answer, or a prefix of it."""
     return (ending.status == 0 and ending.output == whole) or is_beginning(ending, whole)
 
 
-def is_check(ending, whole):
+def is_check(ending, whole) -> bool:
     """Returns whether it is the answer, with its record or without one."""
     without = b"".join(line for line in whole.splitlines(True) if not line.startswith(b"ring "))
     return is_text(ending, whole) or is_text(ending, without)
 
 
-def is_sim(ending, whole):
+def is_sim(ending, whole) -> bool:
     """Returns whether it is the answer, or that of a worker whose reservation was null."""
     without = b"chapter 0 0\ntake 0 empty\nworker 0 done 0\nring 0 producer 0 consumer 0 consumed 0 discarded 0 waiting 0 busy 0\n"
     return is_text(ending, whole) or is_text(ending, without)
 
 
-def is_run(ending, _):
+def is_run(ending, _) -> bool:
     """Returns whether these are the lines of four workers and of the ring: every record made was submitted, none is busy, and no worker made more than its jobs."""
     lines = ending.output.decode().splitlines()
     for line in lines[:4]:
-        numbers = re.fullmatch(r"worker \d made (\d+) refused (\d+) submitted (\d+) discarded 0(?: unlogged (\d+))?", line)
+        numbers = re.fullmatch(
+            r"worker \d made (\d+) refused (\d+) submitted (\d+) discarded 0(?: unlogged (\d+))?", line
+        )
         if not numbers or numbers[1] != numbers[3] or int(numbers[1]) > 100:
             return False
     if len(lines) > 4 and not re.search(r"\bbusy 0\b", lines[4]):
@@ -155,7 +165,7 @@ def split(ending):
     return lines, refusals
 
 
-def is_call(ending, whole):
+def is_call(ending, whole) -> bool:
     """Returns whether it is the whole answer, with one call for each refusal that failed to allocate and changed nothing."""
     lines, refusals = split(ending)
     if any(refusal.state not in ("", refusal.before) for refusal in refusals):
@@ -170,9 +180,9 @@ def ran_in_part(state):
     return sum(made) if made in ([0, 0], [0, JOBS], [1, JOBS], [2, JOBS]) else None
 
 
-def is_jobs(ending, whole):
+def is_jobs(ending, whole) -> bool:
     """Jobs of two workers, run again if one failed to allocate. A helper that failed has reported it to the program. If a thread
-could not be created nothing changes: its work is done on another."""
+    could not be created nothing changes: its work is done on another."""
     lines, refusals = split(ending)
     before = 0
     for refusal in refusals:
@@ -230,7 +240,13 @@ def add_arguments(parser: argparse.ArgumentParser) -> None:
     """Adds the programs."""
     for argument, name in (("program", "rbhost"), ("library", "rb_trials")):
         default = str(proved_program(name))
-        parser.add_argument(argument, metavar=argument.upper(), nargs="?", default=default, help=f"a built {name}; by default the gate's")
+        parser.add_argument(
+            argument,
+            metavar=argument.upper(),
+            nargs="?",
+            default=default,
+            help=f"a built {name}; by default the gate's",
+        )
 
 
 def run(asked: argparse.Namespace) -> int:

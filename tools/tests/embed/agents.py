@@ -6,7 +6,11 @@ from collections.abc import Iterator
 from heskavo.repository import ROOT
 
 SIZE = 4096
-SOURCES = [ROOT / "examples" / "submit_42.hex", ROOT / "examples" / "exit_zero.hex", *sorted((ROOT / "examples" / "c").glob("*.hex"))]
+SOURCES = [
+    ROOT / "examples" / "submit_42.hex",
+    ROOT / "examples" / "exit_zero.hex",
+    *sorted((ROOT / "examples" / "c").glob("*.hex")),
+]
 
 # The words of `rbhost`, in the order of the numbers of include/heskavo_host.h.
 BYTES_FAULTS = ["Length", "TooLong", "LeftOut", "BadOpcode", "BadRegister", "UnusedField", "HalfWide"]
@@ -44,7 +48,11 @@ def draw_tapes(draw: random.Random) -> Iterator[bytes]:
             payload = draw.randbytes(draw.choice([0, 1, 7, 8, 9, 100, draw.randrange(4000)]))
             discarded = draw.random() < 0.2
             word = len(payload) | (1 << 30 if discarded else 0)
-            tape += struct.pack("<II", word, len(tape) % SIZE // 4096) + (bytes(len(payload)) if discarded else payload) + bytes(-len(payload) % 8)
+            tape += (
+                struct.pack("<II", word, len(tape) % SIZE // 4096)
+                + (bytes(len(payload)) if discarded else payload)
+                + bytes(-len(payload) % 8)
+            )
         if draw.random() < 0.3:
             tape[draw.randrange(len(tape))] ^= 1 << draw.randrange(8)
         if draw.random() < 0.2:

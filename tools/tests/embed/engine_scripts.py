@@ -150,9 +150,7 @@ def all_expected(rbhost: str, scripts: list[Script]) -> list[list[str]]:
         return list(pool.map(lambda script: script.expected(rbhost), scripts))
 
 
-def differences(
-    agent: list[str], scripts: list[Script], expected: list[list[str]], draw: random.Random
-) -> list[str]:
+def differences(agent: list[str], scripts: list[Script], expected: list[list[str]], draw: random.Random) -> list[str]:
     """Makes the calls of these scripts by an agent, and returns a line for each script that differs."""
     found = []
     for first in range(0, len(scripts), TOGETHER):

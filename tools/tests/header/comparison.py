@@ -4,17 +4,23 @@ from collections.abc import Iterator
 
 from header.declarations import Declarations, Function
 
+
 def suffixes(numbering: dict[str, int]) -> dict[str, int]:
     """Returns an enum of C without the prefix that its names share, up to an underscore."""
-    shared = os.path.commonprefix(list(numbering)) if len(numbering) > 1 else next(iter(numbering), "").split("_")[0] + "_"
-    return {name[shared.rfind("_") + 1:]: number for name, number in numbering.items()}
+    shared = (
+        os.path.commonprefix(list(numbering)) if len(numbering) > 1 else next(iter(numbering), "").split("_")[0] + "_"
+    )
+    return {name[shared.rfind("_") + 1 :]: number for name, number in numbering.items()}
 
 
 def nearest(wanted: dict[str, int], known: list[tuple[str, dict[str, int]]]) -> str:
     """Returns the list that shares most names with an enum, and each number in which they differ, as the end of a sentence."""
     name, near = max(known, key=lambda it: len(set(it[1]) & set(wanted)))
-    differ = [f"{it} is {wanted[it] if it in wanted else 'missing'} in the header, {near[it] if it in near else 'missing'} in the sources"
-              for it in sorted(set(wanted) | set(near)) if wanted.get(it, -1) != near.get(it, -1)]
+    differ = [
+        f"{it} is {wanted[it] if it in wanted else 'missing'} in the header, {near[it] if it in near else 'missing'} in the sources"
+        for it in sorted(set(wanted) | set(near))
+        if wanted.get(it, -1) != near.get(it, -1)
+    ]
     return f"; {name} is nearest: {', '.join(differ)}"
 
 
@@ -45,7 +51,9 @@ class Types:
 
     def agree(self, declared: str, exported: str) -> bool:
         """Returns whether a type of the header and one of the sources are the same; the first call for a struct makes the pair."""
-        declared_name, exported_name = (it.removeprefix("const ").removeprefix("struct ").rstrip(" *") for it in (declared, exported))
+        declared_name, exported_name = (
+            it.removeprefix("const ").removeprefix("struct ").rstrip(" *") for it in (declared, exported)
+        )
         if declared.replace(declared_name, "", 1) != exported.replace(exported_name, "", 1):
             return False
         if "struct " not in declared:
@@ -65,7 +73,9 @@ def parameters_differ(declared: Function, exported: Function, types: Types) -> I
     # Types alone do not show an exchange of two parameters of one type, so their names are compared. One of each type may have another name in the header.
     kinds = {item.type for item in declared.parameters}
     for kind in kinds:
-        pairs = [(one.name, other.name) for one, other in zip(declared.parameters, exported.parameters) if one.type == kind]
+        pairs = [
+            (one.name, other.name) for one, other in zip(declared.parameters, exported.parameters) if one.type == kind
+        ]
         ours, theirs = [one for one, _ in pairs], [other for _, other in pairs]
         renamed = [one for one in ours if one not in theirs]
         if any(one != other for one, other in pairs if one not in renamed) or len(renamed) > 1:
@@ -94,7 +104,9 @@ def fields_differ(header: Declarations, other: Declarations, types: Types) -> It
             yield f"struct {name}: only {'the header' if ours else 'the other side'} declares its fields ({paired})"
         elif ours is not None and theirs is not None:
             shown = [", ".join(f"{it.type} {it.name}" for it in fields) for fields in (ours, theirs)]
-            if [it.name for it in ours] != [it.name for it in theirs] or not all(types.agree(a.type, b.type) for a, b in zip(ours, theirs)):
+            if [it.name for it in ours] != [it.name for it in theirs] or not all(
+                types.agree(a.type, b.type) for a, b in zip(ours, theirs)
+            ):
                 yield f"struct {name}: its fields are {shown[0]}; those of {paired} are {shown[1]}"
 
 
@@ -113,8 +125,12 @@ def differences(header: Declarations, crate: Declarations, below: Declarations) 
     `below` are the crates that the library uses: an enum may have its numbers from there, but not each numbering there has an enum.
     """
     types = Types()
-    return [*(f"not read: {piece}" for piece in header.unread + crate.unread), *numbers_differ(header, crate, below),
-            *functions_differ(header, crate, types), *structs_differ(header, crate, types)]
+    return [
+        *(f"not read: {piece}" for piece in header.unread + crate.unread),
+        *numbers_differ(header, crate, below),
+        *functions_differ(header, crate, types),
+        *structs_differ(header, crate, types),
+    ]
 
 
 def enum_of(header: Declarations, numbers: dict[str, int]) -> tuple[str, dict[str, int]]:
@@ -131,9 +147,17 @@ def binding_differences(header: Declarations, binding: Declarations) -> list[str
         if declared is None:
             found.append(f"{name}: the header does not declare it")
         else:
-            found += [] if types.agree(declared.result, bound.result) else [f"{name}: it returns `{declared.result}` in the header, `{bound.result}` in the binding"]
+            found += (
+                []
+                if types.agree(declared.result, bound.result)
+                else [f"{name}: it returns `{declared.result}` in the header, `{bound.result}` in the binding"]
+            )
             found += parameters_differ(declared, bound, types)
     for name, numbers in binding.numberings.items():
         enum, wanted = enum_of(header, numbers)
-        found += [f"{name}: {it} is {wanted[it]} in {enum}, {numbers[it]} in the binding" for it in numbers if it in wanted and wanted[it] != numbers[it]]
+        found += [
+            f"{name}: {it} is {wanted[it]} in {enum}, {numbers[it]} in the binding"
+            for it in numbers
+            if it in wanted and wanted[it] != numbers[it]
+        ]
     return [*found, *fields_differ(header, binding, types)]

@@ -9,13 +9,29 @@ COMMENT = re.compile(r"//[^\n]*")
 GHOST = re.compile(r"^\s*(?:pub )?ghost \w+: \{[^}]*\}(?: by \{[^}]*\})?,\n", re.MULTILINE)
 CONSTANT = re.compile(r"^pub const (\w+): (?:u8|u16|u32|u64|usize) = (0x[0-9a-fA-F_]+|[0-9_]+);", re.MULTILINE)
 STRUCT = re.compile(r"#\[repr\(C\)\]\s*(?:#\[[^\]]*\]\s*)*pub struct (\w+) \{([^}]*)\}")
-EXPORT = re.compile(r'#\[unsafe\(no_mangle\)\]\s*pub (?:unsafe )?extern "C" fn (\w+)\(([^)]*)\)(?:\s*->\s*([\w&<>\[\] *]+?))?\s*(?=\b(?:ensures|requires)\b|\{)')
-NUMBERING = re.compile(r"\bfn (\w+)\([^)]*\) -> u\d+(?:\s*(?:ensures|requires) [^\n]*)*\s*\{\s*match \w+ \{([^{}]*)\}\s*\}")
+EXPORT = re.compile(
+    r'#\[unsafe\(no_mangle\)\]\s*pub (?:unsafe )?extern "C" fn (\w+)\(([^)]*)\)(?:\s*->\s*([\w&<>\[\] *]+?))?\s*(?=\b(?:ensures|requires)\b|\{)'
+)
+NUMBERING = re.compile(
+    r"\bfn (\w+)\([^)]*\) -> u\d+(?:\s*(?:ensures|requires) [^\n]*)*\s*\{\s*match \w+ \{([^{}]*)\}\s*\}"
+)
 ARM = re.compile(r"((?:\w+::\w+(?:\([^)]*\))?\s*\|?\s*)+)=>\s*(\d+)")
 
 # The types of C for those of Rust that stand for themselves.
-SCALARS = {"u8": "uint8_t", "u16": "uint16_t", "u32": "uint32_t", "u64": "uint64_t", "usize": "size_t", "bool": "bool",
-           "i8": "int8_t", "i16": "int16_t", "i32": "int32_t", "i64": "int64_t", "isize": "ptrdiff_t", "()": "void"}
+SCALARS = {
+    "u8": "uint8_t",
+    "u16": "uint16_t",
+    "u32": "uint32_t",
+    "u64": "uint64_t",
+    "usize": "size_t",
+    "bool": "bool",
+    "i8": "int8_t",
+    "i16": "int16_t",
+    "i32": "int32_t",
+    "i64": "int64_t",
+    "isize": "ptrdiff_t",
+    "()": "void",
+}
 
 
 def pointed(kind: str) -> str:
@@ -55,7 +71,9 @@ def numberings(text: str) -> dict[str, dict[str, int]]:
     """Returns the numbers that functions give to the variants of an enum, by the function; 0 stands for no variant of C."""
     found: dict[str, dict[str, int]] = {}
     for function, body in NUMBERING.findall(text):
-        arms = [(variant, int(number)) for names, number in ARM.findall(body) for variant in re.findall(r"::(\w+)", names)]
+        arms = [
+            (variant, int(number)) for names, number in ARM.findall(body) for variant in re.findall(r"::(\w+)", names)
+        ]
         owners = set(re.findall(r"(\w+)::\w+", body))
         if arms and len(owners) == 1:
             found[f"{owners.pop()} in {function}"] = {words(variant): number for variant, number in arms if number}

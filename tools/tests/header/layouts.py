@@ -10,8 +10,19 @@ from header.declarations import Declarations, Item
 Layout = tuple[dict[str, int], int, int]
 
 # The size of each scalar of C in bytes, which is also its alignment, on x86-64, the kit's one target.
-BYTES = {"uint8_t": 1, "int8_t": 1, "bool": 1, "uint16_t": 2, "int16_t": 2, "uint32_t": 4, "int32_t": 4, "uint64_t": 8, "int64_t": 8,
-         "size_t": 8, "ptrdiff_t": 8}
+BYTES = {
+    "uint8_t": 1,
+    "int8_t": 1,
+    "bool": 1,
+    "uint16_t": 2,
+    "int16_t": 2,
+    "uint32_t": 4,
+    "int32_t": 4,
+    "uint64_t": 8,
+    "int64_t": 8,
+    "size_t": 8,
+    "ptrdiff_t": 8,
+}
 
 
 def layout(fields: tuple[Item, ...], structs: dict[str, tuple[Item, ...]]) -> Layout:
@@ -65,5 +76,7 @@ def layouts_differ(header: Declarations, crate: Declarations, compiled: dict[str
         if exported in crate.structs and name in compiled:
             ours, theirs = compiled[name], layout(crate.structs[exported], crate.structs)
             if ours != theirs:
-                found.append(f"struct {name}: offsets {ours[0]}, size {ours[1]}; {exported} has {theirs[0]}, size {theirs[1]}")
+                found.append(
+                    f"struct {name}: offsets {ours[0]}, size {ours[1]}; {exported} has {theirs[0]}, size {theirs[1]}"
+                )
     return found

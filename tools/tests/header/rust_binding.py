@@ -19,7 +19,9 @@ def declarations(sources: list[pathlib.Path]) -> Declarations:
         for block in BLOCK.findall(text):
             functions = DECLARED.findall(block)
             for name, parameters, result in functions:
-                found.functions[name] = Function(name, of_type("result", result.strip() or "()")[0].type, tuple(listed(parameters)))
+                found.functions[name] = Function(
+                    name, of_type("result", result.strip() or "()")[0].type, tuple(listed(parameters))
+                )
             if len(functions) != len(re.findall(r"\bfn ", block)):
                 found.unread.append(f"{source.name}: a function of an extern block that is not read")
         found.structs |= {name: tuple(listed(body)) for name, body in STRUCT.findall(text)}
