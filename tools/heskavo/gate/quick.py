@@ -128,6 +128,7 @@ def checks() -> list[Check]:
         Check("service", unit_test("test_service.py"), is_timed=True),
         Check("documents", command(TOOLS / "check")),
         Check("gate", unit_test("test_gate.py")),
+        Check("checks of documents", unit_test("test_documents.py")),
         Check("builds without proof", unit_test("test_program.py")),
         Check("python", python),
     ]
