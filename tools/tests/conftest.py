@@ -5,6 +5,7 @@ from pathlib import Path
 from typing import Any
 
 import pytest
+from stream_host import Host
 
 from heskavo.program import builds, library
 
@@ -51,3 +52,15 @@ def libheskavo(request: pytest.FixtureRequest, tmp_path_factory: pytest.TempPath
     if given:
         return Path(given).resolve()
     return library.build(tmp_path_factory.mktemp("library"), is_proved=builds.proved("heskavo_c") is not None)
+
+
+@pytest.fixture
+def seconds(request: pytest.FixtureRequest) -> int:
+    """How long the long trials of the service run."""
+    return int(request.config.getoption("--seconds"))
+
+
+@pytest.fixture
+def host(rbhost: str, tmp_path: Path) -> Host:
+    """A host over `rbhost stream` in a folder of its own."""
+    return Host(rbhost, tmp_path)

@@ -44,7 +44,10 @@ More about rings.
     [
         ("| a | b |\n|---|---|\n| 1 | 2 |\n", []),
         ("| a | b |\n|---|---|\n| 1 | 2 |\n\n| 3 | 4 |\n", [(5, "is a table's row without a header")]),
-        ("| a | b |\n|---|---|\n| 1 |\n| 1 | 2 | 3 |\n", [(3, "has 1 cells, and the table's header 2"), (4, "has 3 cells, and the table's header 2")]),
+        (
+            "| a | b |\n|---|---|\n| 1 |\n| 1 | 2 | 3 |\n",
+            [(3, "has 1 cells, and the table's header 2"), (4, "has 3 cells, and the table's header 2")],
+        ),
         ("| a | b |\n|---|---|\n| `x | y` | \\| |\n", []),
         ("```text\n| a |\n| b | c |\n```\n", []),
     ],
@@ -63,7 +66,9 @@ def sources(monkeypatch: pytest.MonkeyPatch) -> None:
     monkeypatch.setattr(proof_status, "public_calls", lambda: CALLS)
     monkeypatch.setattr(proof_status, "libraries_of_crates", lambda: {"rb_ring": []})
     monkeypatch.setattr(proof_status, "clauses_by_call", lambda: {call.path: {*call.clauses} for call in CALLS})
-    monkeypatch.setattr(proof_status, "words_of_sources", lambda: {"Ring", "open", "len", "close", "size", "start", "law"})
+    monkeypatch.setattr(
+        proof_status, "words_of_sources", lambda: {"Ring", "open", "len", "close", "size", "start", "law"}
+    )
 
 
 @pytest.mark.usefixtures("sources")

@@ -32,18 +32,6 @@ CONTEXTS = 20_000
 RESTARTS = 100
 
 
-@pytest.fixture
-def host(rbhost: str, tmp_path: pathlib.Path) -> Host:
-    """A host in a folder of its own."""
-    return Host(rbhost, tmp_path)
-
-
-@pytest.fixture
-def seconds(request: pytest.FixtureRequest) -> int:
-    """How long the long trials run."""
-    return int(request.config.getoption("--seconds"))
-
-
 def test_restarts(host: Host) -> None:
     """Hosts that are killed at random moments, and a follower of all of them."""
     program, folder = host.file("all.hex", output_program(0, 16)), host.folder / "segments"

@@ -21,6 +21,7 @@ from heskavo.command_line import Failure
 from heskavo.gate import unit_tests
 from heskavo.repository import CRATES, ROOT, TOOLS
 
+SERVICE = ("test_service.py", "test_service_peers.py", "test_segments.py")
 # How many of the last lines of a failed check are shown.
 SHOWN = 15
 
@@ -54,9 +55,9 @@ def command(*words: str | Path) -> Body:
     return body
 
 
-def unit_test(name: str) -> Body:
-    """Returns a check that runs a file of tests."""
-    return lambda: command(*unit_tests.command(name))()
+def unit_test(*names: str) -> Body:
+    """Returns a check that runs files of tests."""
+    return lambda: command(*unit_tests.command(*names))()
 
 
 def tests_of(crate: str) -> Body:
@@ -125,7 +126,7 @@ def checks() -> list[Check]:
         Check("tapes from Linux", unit_test("test_linux_tape.py")),
         Check("tapes through Redis", unit_test("test_ship.py"), is_timed=True),
         Check("captures", unit_test("test_pcap_frames.py")),
-        Check("service", unit_test("test_service.py"), is_timed=True),
+        Check("service", unit_test(*SERVICE), is_timed=True),
         Check("documents", command(TOOLS / "check")),
         Check("gate", unit_test("test_gate.py")),
         Check("checks of documents", unit_test("test_documents.py")),
