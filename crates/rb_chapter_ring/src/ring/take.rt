@@ -59,6 +59,7 @@ impl RingState {
         ensures count { result ≡ length (pushed out.old.items out.new.items) }
         ensures capacity { vec_capacity out.new ≡ vec_capacity out.old }
     {
+        self.compact();
         for count in 0..n {
             match self.take() {
                 Taken::BusyFront | Taken::Empty => return count,
@@ -66,5 +67,12 @@ impl RingState {
             }
         }
         n
+    }
+
+    // Reuses memory of records that were taken, if few are left.
+    fn compact(&mut self)
+        ensures same { self.new ≡ self.old }
+    {
+        self.chapter.compact();
     }
 }
