@@ -196,6 +196,13 @@ impl Chapter {
         log(&mut self.words, take_word(pos));
     }
 
+    /// Reuses memory of records that were taken, if few are left. The chapter's value does not change.
+    pub(crate) fn compact(&mut self)
+        ensures same { self.new ≡ self.old }
+    {
+        self.closing.compact();
+    }
+
     /// States the invariant of a chapter: it is legal from its opening, which is the summary of a legal history, and it
     /// has room for the entries that it owes.
     pub fn facts(&self)

@@ -12,12 +12,18 @@ mod numbers;
 
 use crate::record_end::RecordEnd;
 use crate::standing_lists::{
-    are_same_records, are_same_tallies, count_end, count_made, front_of, set_end,
+    are_same_records, are_same_tallies, count_end, count_made, front_of, remove_front, set_end,
 };
 pub use numbers::StandingNumbers;
 use rb_history::{Tally, span};
 use std::alloc::{AllocError, Global};
 use std::marker::Model;
+
+// The number of taken records from which on `compact` reuses their memory, a quarter of a megabyte.
+const LEAST_TAKEN: usize = 8_192;
+
+// The largest number of records that `compact` moves.
+const MOST_MOVED: usize = 4_096;
 
 /// The status of a record that was not taken.
 #[derive(Clone, Copy, Debug, PartialEq, Eq)]
@@ -181,6 +187,20 @@ impl Standing {
         let record = set_end(self.records.as_mut_slice(), self.first, index, end);
         count_end(self.tallies.as_mut_slice(), record.worker, end);
         record.pos
+    }
+
+    // Moves the untaken records to the front of their memory, if they are few and many were taken. So a list whose
+    // records are taken in time uses little of its memory.
+    pub(crate) fn compact(&mut self)
+        ensures same { self.new.opening ≡ self.old.opening }
+        ensures room { self.new.room ≡ self.old.room }
+        ensures passed { self.new.passed ≤ self.old.passed }
+    {
+        let left = self.records.len() - self.first;
+        if self.first >= LEAST_TAKEN && left <= MOST_MOVED {
+            remove_front(&mut self.records, self.first);
+            self.first = 0;
+        }
     }
 
     // Applies a take of the record at the front. Returns the consumer position before it.

@@ -1,6 +1,6 @@
 //! The lists of an opening: its records, and its workers' totals.
 
-ghost use Rattle.std.specs.Prelude.{◌≡◌, ◌+◌, ◌<◌, ◌^◌, ◌↔◌, IsTrue, drop, length, map, replicate, slice_index_or, slice_set};
+ghost use Rattle.std.specs.Prelude.{◌≡◌, ◌+◌, ◌<◌, ◌≤◌, ◌^◌, ◌↔◌, IsTrue, drop, length, map, replicate, slice_index_or, slice_set, vec_len, vec_capacity};
 ghost use Rattle.rb_chapter_ring.specs.Standing.{no_record, no_tally};
 ghost use Rattle.rb_chapter_ring.specs.UntakenRecords.{untaken_shown};
 ghost use Rattle.rb_chapter_ring.specs.RecordEnds.{status_of_end, tally_with_end};
@@ -69,6 +69,17 @@ pub(crate) fn set_end(
     let status = end.status();
     records[place] = UntakenRecord { status, ..record };
     record
+}
+
+/// Removes the first records. The others move to the front of the memory.
+pub(crate) fn remove_front(records: &mut Vec<UntakenRecord>, many: usize)
+    requires within { many ≤ vec_len records.old }
+    ensures left { records.new.items ≡ drop many records.old.items }
+    ensures capacity { vec_capacity records.new ≡ vec_capacity records.old }
+{
+    let left = records.len() - many;
+    records.copy_within(many.., 0);
+    records.truncate(left);
 }
 
 /// Returns the first untaken record.
