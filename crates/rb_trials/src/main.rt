@@ -7,7 +7,6 @@
 
 mod bench;
 mod fault;
-mod fields;
 mod listing;
 mod loading;
 mod numbers;

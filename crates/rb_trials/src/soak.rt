@@ -16,7 +16,6 @@ mod sums;
 mod worker;
 
 use crate::fault::TrialFault;
-use crate::fields::tell_error_field;
 use plan::SoakPlan;
 use ring_round::round;
 use std::alloc::Global;
@@ -72,11 +71,16 @@ fn sum_of(rounds: &[Result<SoakSums, TrialFault>]) -> Result<SoakSums, TrialFaul
 
 // Prints the counts, which depend on the schedule.
 fn tell<R: Eprint>(rt: &R, sums: &SoakSums) {
-    let _ = eprint!(rt; "made {}", sums.made);
-    tell_error_field(rt, "refused", sums.refused);
-    tell_error_field(rt, "submitted", sums.submitted);
-    tell_error_field(rt, "discarded", sums.discarded);
-    tell_error_field(rt, "chapters", sums.chapters);
-    tell_error_field(rt, "bound", sums.bound);
-    let _ = rt.eprintln("");
+    let SoakSums {
+        made,
+        refused,
+        submitted,
+        discarded,
+        chapters,
+        bound,
+        ..
+    } = *sums;
+    let _ = eprintln!(rt;
+        "made {made} refused {refused} submitted {submitted} discarded {discarded} chapters {chapters} bound {bound}"
+    );
 }

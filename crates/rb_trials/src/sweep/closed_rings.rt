@@ -4,7 +4,6 @@ ghost use Rattle.std.specs.Prelude.{◌≡◌, ◌∷◌, [], IfSome};
 
 use super::memory::TRIES;
 use crate::fault::TrialFault;
-use crate::fields::{end_line, tell_field};
 use rb_chapter_ring::Chapter;
 use rb_for_tests::OpenRing;
 use rb_history::Counts;
@@ -78,20 +77,24 @@ pub(crate) fn bind<R: Print>(
 
 // Prints the state of the closed ring, and how many chapters there are besides its last.
 fn tell_closing<R: Print>(rt: &R, call: &str, closing: &Closing, chapters: usize) {
-    let _ = print!(rt; "{call}:");
-    tell_field(rt, "producer", closing.producer());
-    tell_field(rt, "consumer", closing.consumer());
-    tell_field(rt, "chapter", closing.chapter().number());
-    tell_field(rt, "beside", chapters as u64);
-    end_line(rt);
+    let (producer, consumer) = (closing.producer(), closing.consumer());
+    let number = closing.chapter().number();
+    let _ = println!(rt;
+        "{call}: producer {producer} consumer {consumer} chapter {number} beside {chapters}"
+    );
 }
 
 // Prints the counts of the granted records.
 fn tell_sum<R: Print>(rt: &R, counts: Counts) {
-    let _ = print!(rt; "made {}", counts.made);
-    tell_field(rt, "= consumed", counts.consumed);
-    tell_field(rt, "+ discarded", counts.discarded);
-    tell_field(rt, "+ waiting", counts.waiting);
-    tell_field(rt, "+ busy", counts.busy);
-    end_line(rt);
+    let Counts {
+        made,
+        consumed,
+        discarded,
+        waiting,
+        busy,
+        ..
+    } = counts;
+    let _ = println!(rt;
+        "made {made} = consumed {consumed} + discarded {discarded} + waiting {waiting} + busy {busy}"
+    );
 }

@@ -7,7 +7,6 @@ use super::memory::{TRIES, tell_memory};
 use super::programs::{OUTPUT, RESERVE, verified};
 use super::standing::tell_counts;
 use crate::fault::TrialFault;
-use crate::fields::{end_line, tell_field};
 use crate::listing::listed;
 use rb_interp::RunFault;
 use rb_shared_ring::OpenFault;
@@ -80,8 +79,7 @@ fn tell_report<R: Print>(rt: &R, report: &JobsReport<NullSink>) {
     let (unlogged, strays) = (report.unlogged, report.strays);
     let _ = println!(rt; "unlogged {unlogged} strays {strays}");
     for ended in &report.rings {
-        let _ = rt.print("ring:");
-        tell_field(rt, "entries", u64::from(ended.closing.chapter().used()));
+        let _ = print!(rt; "ring: entries {} ", ended.closing.chapter().used());
         tell_counts(rt, ended.closing.counts());
     }
 }
@@ -111,19 +109,16 @@ fn report<R: Threads + Wait + Sync + Print>(
 // that were not taken.
 fn tell_all<R: Print>(rt: &R, call: &str, rings: &[Opened<NullSink>]) {
     for one in rings {
-        let _ = print!(rt; "{call}:");
-        tell_field(rt, "seats", one.seats.len() as u64);
+        let _ = print!(rt; "{call}: seats {}", one.seats.len());
         let (mut busy, mut waiting): (u64, u64) = (0, 0);
         for seat in &one.seats {
             let ended = seat.submitted().wrapping_add(seat.discarded());
             busy = busy.wrapping_add(seat.made().wrapping_sub(ended));
             waiting = waiting.wrapping_add(seat.submitted());
-            tell_field(rt, "made", seat.made());
+            let _ = print!(rt; " made {}", seat.made());
         }
         waiting = waiting.wrapping_sub(one.consumer.consumed());
-        tell_field(rt, "busy", busy);
-        tell_field(rt, "waiting", waiting);
-        end_line(rt);
+        let _ = println!(rt; " busy {busy} waiting {waiting}");
     }
 }
 

@@ -7,7 +7,6 @@ use super::shared_rings::opened;
 use super::sheets::{LONG, filled, renew};
 use super::standing::tell_counts;
 use crate::fault::TrialFault;
-use crate::fields::tell_field;
 use rb_history::Taken;
 use rb_lend::Sheet;
 use rb_shared_ring::{ConsumerSeat, Seat, SharedRing};
@@ -80,12 +79,12 @@ fn tell<R: Wait + Print>(rt: &R, call: &str, ring: &SharedRing, seat: &mut Seat)
         let _ = println!(rt; "{call}: foreign");
         return;
     };
-    let _ = print!(rt; "{call}: seat");
-    tell_field(rt, "made", seat.made());
-    tell_field(rt, "refused", seat.refused());
-    tell_field(rt, "submitted", seat.submitted());
-    tell_field(rt, "discarded", seat.discarded());
-    tell_field(rt, "ring producer", audit.producer);
-    tell_field(rt, "consumer", audit.consumer);
+    let (made, refused) = (seat.made(), seat.refused());
+    let (submitted, discarded) = (seat.submitted(), seat.discarded());
+    let (producer, consumer) = (audit.producer, audit.consumer);
+    let _ = print!(rt;
+        "{call}: seat made {made} refused {refused} submitted {submitted} discarded {discarded}, "
+    );
+    let _ = print!(rt; "ring producer {producer} consumer {consumer} ");
     tell_counts(rt, audit.counts);
 }

@@ -5,7 +5,6 @@ ghost use Rattle.std.specs.Prelude.{◌≡◌, IfOk, length};
 use super::memory::TRIES;
 use super::sheets::{LONG, filled};
 use crate::fault::TrialFault;
-use crate::fields::{end_line, tell_field};
 use rb_history::Counts;
 use rb_lend::Sheet;
 use std::alloc::Global;
@@ -36,23 +35,25 @@ pub(crate) fn tell<R: Print, T: Stands>(rt: &R, call: &str, ring: &T) {
         consumer,
         counts,
     } = ring.standing();
-    let _ = print!(rt; "{call}:");
-    tell_field(rt, "chapters", chapters);
-    tell_field(rt, "entries", entries);
-    tell_field(rt, "producer", producer);
-    tell_field(rt, "consumer", consumer);
+    let _ = print!(rt;
+        "{call}: chapters {chapters} entries {entries} producer {producer} consumer {consumer} "
+    );
     tell_counts(rt, counts);
 }
 
 /// Prints counts, at the end of a line.
 pub(crate) fn tell_counts<R: Print>(rt: &R, counts: Counts) {
-    tell_field(rt, "made", counts.made);
-    tell_field(rt, "refused", counts.refused);
-    tell_field(rt, "consumed", counts.consumed);
-    tell_field(rt, "discarded", counts.discarded);
-    tell_field(rt, "waiting", counts.waiting);
-    tell_field(rt, "busy", counts.busy);
-    end_line(rt);
+    let Counts {
+        made,
+        refused,
+        consumed,
+        discarded,
+        waiting,
+        busy,
+    } = counts;
+    let _ = println!(rt;
+        "made {made} refused {refused} consumed {consumed} discarded {discarded} waiting {waiting} busy {busy}"
+    );
 }
 
 /// Returns a long sheet, allocated while a ring exists.
