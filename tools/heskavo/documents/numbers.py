@@ -10,8 +10,10 @@ NUMBER = r"(\d[\d,_]*(?<=\d)|\b(?:" + "|".join(WORDS) + r")\b)"
 
 def text_of(name: str) -> str:
     """Returns a file's text: a document, a file from the top, or one below crates/."""
-    places = [ROOT / name, ROOT / "docs" / name, CRATES / name]
-    return next(place for place in places if place.is_file()).read_text()
+    for place in (ROOT / name, ROOT / "docs" / name, CRATES / name):
+        if place.is_file():
+            return place.read_text()
+    raise LookupError(f"there is no file {name}")
 
 
 def pages() -> list[Path]:
@@ -34,4 +36,7 @@ def matches(text: str, sought: str) -> list[list[int]]:
 
 def first(file: str, sought: str) -> list[int]:
     """Returns the numbers of the first occurrence of a text in a file."""
-    return matches(text_of(file), sought)[0]
+    found = matches(text_of(file), sought)
+    if not found:
+        raise LookupError(f"{file} does not have: {sought}")
+    return found[0]

@@ -224,16 +224,24 @@ STATED: list[tuple[str, str, Sequence[Source]]] = [
 ]
 
 
+def numbers_of(sources: Sequence[Source]) -> list[int]:
+    """Returns the numbers that these places have; it is a LookupError if one of them is gone."""
+    return [number for source in sources for number in (source() if callable(source) else first(*source))]
+
+
 def compared() -> Iterator[str]:
     """Yields the statements of the documents that differ from the code."""
     for document, sought, sources in STATED:
-        wanted = [number for source in sources for number in (source() if callable(source) else first(*source))]
-        found = matches(text_of(document), sought)
+        try:
+            wanted, found = numbers_of(sources), matches(text_of(document), sought)
+        except LookupError as gone:
+            yield f"{document}: {sought}: {gone.args[0]}"
+            continue
         if not found:
             yield f"{document} does not say: {sought}"
-        yield from (
-            f"{document} has {numbers}, and the code {wanted}: {sought}" for numbers in found if numbers != wanted
-        )
+        for numbers in found:
+            if numbers != wanted:
+                yield f"{document} has {numbers}, and the code {wanted}: {sought}"
 
 
 def copied() -> Iterator[str]:
