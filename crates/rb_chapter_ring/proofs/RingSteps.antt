@@ -1,8 +1,8 @@
 -- What each step preserves of a ring without its hands, and which call it is.
-use Rattle.std.proofs.Common.{◌≡◌, ℕ, ◌+◌, ◌/◌, ◌%◌, ◌<◌, ◌≤◌, true, false, List, [], ◌∷◌, ◌++◌, length, length-append, length-set, map, append_assoc, set, get_or, refl, sym, ap, ◌∙◌, subst, arith}
+use Rattle.std.proofs.Common.{◌≡◌, ℕ, ◌+◌, ◌/◌, ◌%◌, ◌<◌, ◌≤◌, ◌^◌, true, false, List, [], ◌∷◌, ◌++◌, length, length-append, length-set, map, append_assoc, set, get_or, refl, sym, ap, ◌∙◌, subst, arith}
 use Rattle.std.specs.FinMap.{insert}
 use Rattle.std.specs.Int.{IsPowerOfTwo}
-use Rattle.std.proofs.lemmas.List.{get_or_push, map-append}
+use Rattle.std.proofs.lemmas.List.{get_or_push, length-map, map-append}
 use Rattle.rb_history.specs.declared.entries.Entry.TheVariants.{Res, Sub}
 use Rattle.rb_history.specs.declared.answers.Taken.{Taken}
 use Rattle.rb_history.specs.declared.answers.Taken.TheVariants.{Event, Skipped}
@@ -34,6 +34,7 @@ use Rattle.rb_chapter_ring.proofs.Numbers.{ordinal-of-grant, ordinals-end, ordin
 use Rattle.rb_chapter_ring.proofs.Settles.{end-closing, is-busy, pos-now, end-keeps, contents-end}
 use Rattle.rb_chapter_ring.proofs.Slotted.{busy_now, busy-there, slots-enough, slots-long, grant-stored, refusal-stored, end-stored}
 use Rattle.rb_chapter_ring.proofs.TakesOne.{TakesAs}
+use Rattle.rb_chapter_ring.proofs.Told.{together}
 use Rattle.rb_chapter_ring.proofs.Turns.{closing-same, turn-keeps, hands-out}
 
 -- after a step the parts form a ring, and each record keeps its ordinal
@@ -312,12 +313,17 @@ module _ (p : RingParts) (i : AreParts p) (w : ℕ) (bytes : List ℕ) (low : w 
   pub granted-is-busy : IsBusyNow d index
   granted-is-busy = busy-record-now (after_request p d p.refused) granted.keeps.parts index pos bytes at
 
-  pub outputs : (slot : ℕ) → slot ≡ (taken_before (closing_of p.chapter) + index) % length p.sheets → slot < length p.sheets → (e : Chapter) → e ≡ with_entry d (entry_of_end Submit (record_now d index).pos)
+  -- the ordinal of that record
+  pub granted-ordinal : taken_before (closing_of d) + index < 2 ^ 62
+  granted-ordinal =
+      let t = together i.earlier p.chapter (stored_of p.chapter p.sheets) i.counts i.ring in
+      omega (arith, granted.taken_same, last, length-map (stored_of p.chapter p.sheets) shown_record, t.made_is, t.low)
+
+  pub outputs : (slot : ℕ) → slot ≡ (taken_before (closing_of d) + index) % length p.sheets → slot < length p.sheets → (e : Chapter) → e ≡ with_entry d (entry_of_end Submit (record_now d index).pos)
       → (sheets : List (List ℕ)) → sheets ≡ slots_with_end Submit slot bytes p.sheets → OutputsParts p (after_end p e sheets p.discarded) w bytes
   outputs slot slot_is within e logged sheets stored_bytes =
       let mid = after_request p d p.refused in
-      let here = slot_is ∙ ap (λ t. (t + index) % length p.sheets) (sym granted.taken_same) in
-      let ended = ends mid granted.keeps.parts index pos bytes at Submit slot here within e logged sheets stored_bytes p.discarded (omega arith) in
+      let ended = ends mid granted.keeps.parts index pos bytes at Submit slot slot_is within e logged sheets stored_bytes p.discarded (omega arith) in
       record {
         keeps = record { parts = ended.keeps.parts; numbers = ordinals-on (closing_of p.chapter) (closing_of d) (closing_of e) granted.keeps.numbers ended.keeps.numbers };
         outputs = outputs-by (ring_in p) (ring_in mid) (ring_in (after_end p e sheets p.discarded)) w pos k bytes granted.granted ended.logged ended.contents;

@@ -3,7 +3,7 @@
 ghost use Rattle.std.specs.Prelude.{◌≡◌, ◌+◌, ◌-◌, ◌<◌, ◌≤◌, ◌^◌, ◌↔◌, ◌++◌, ◌∷◌, [], IfOk, IfErr, IsTrue, List, vec_len, vec_capacity};
 ghost use Rattle.rb_history.specs.Span.{span};
 ghost use Rattle.rb_history.specs.declared.entries.Entry.{Entry};
-ghost use Rattle.rb_history.specs.declared.entries.Entry.TheVariants.{Full, Take};
+ghost use Rattle.rb_history.specs.declared.entries.Entry.TheVariants.{Take};
 ghost use Rattle.rb_history.specs.RingModel.{IsWorkerCount};
 ghost use Rattle.rb_chapter_ring.specs.Chapters.{IsChapterRoom, empty_chapter, first_chapter, closing_of, Meets};
 ghost use Rattle.rb_chapter_ring.specs.ChapterRoom.{used, owed, MayGrant, MayRefuse, record_now, IsBusyNow, HasSettledFront, with_entry};
@@ -149,7 +149,12 @@ impl Chapter {
         if !self.may_grant() {
             return Err(ReserveFault::ChapterFull);
         }
-        Ok(self.log_grant(worker, len))
+        let pos = self.closing.numbers().producer;
+        let serial = self.closing.add_grant(worker, len);
+        let later = serial - self.opening.made(worker);
+        self.owed += 2;
+        log(&mut self.words, grant_word(worker, later, len));
+        Ok((pos, serial))
     }
 
     #[cold]
@@ -163,35 +168,9 @@ impl Chapter {
         if !self.may_refuse(worker) {
             return ReserveFault::ChapterFull;
         }
-        self.log_refusal(worker, len);
-        ReserveFault::Full
-    }
-
-    // Logs a refusal: the worker requested `len` bytes, and the ring has no room for them.
-    fn log_refusal(&mut self, worker: u32, len: u32)
-        requires worker { worker < self.old.opening.setup.workers }
-        requires no_room { ¬ HasRoomFrom self.old.opening self.old.entries len }
-        requires chapter_room { MayRefuse self.old worker }
-        ensures logged { self.new ≡ with_entry self.old (Full worker len) }
-    {
         self.closing.add_refusal(worker);
         log(&mut self.words, refusal_word(worker, len));
-    }
-
-    // Logs a grant: the worker is granted the next record, of `len` bytes, at the producer position. Returns the
-    // record's position and serial.
-    fn log_grant(&mut self, worker: u32, len: u32) -> (u64, u64)
-        requires worker { worker < self.old.opening.setup.workers }
-        requires room { HasRoomFrom self.old.opening self.old.entries len }
-        requires chapter_room { MayGrant self.old }
-        ensures granted { GrantsRecord self.old self.new worker len result.0 result.1 }
-    {
-        let pos = self.closing.numbers().producer;
-        let serial = self.closing.add_grant(worker, len);
-        let later = serial - self.opening.made(worker);
-        self.owed += 2;
-        log(&mut self.words, grant_word(worker, later, len));
-        (pos, serial)
+        ReserveFault::Full
     }
 
     #[inline(always)]
@@ -202,7 +181,8 @@ impl Chapter {
         ensures logged { self.new ≡ with_entry self.old (entry_of_end end (record_now self.old index).pos) }
     {
         let pos = self.closing.add_end(index, end);
-        log_owed(&mut self.words, &mut self.owed, end_word(end, pos));
+        self.owed -= 1;
+        log(&mut self.words, end_word(end, pos));
     }
 
     /// Logs a take of the record at the front, which was submitted or discarded. Takes constant time and does not
@@ -212,7 +192,15 @@ impl Chapter {
         ensures logged { self.new ≡ with_entry self.old (Take (consumer_from self.old.opening self.old.entries)) }
     {
         let pos = self.closing.add_take();
-        log_owed(&mut self.words, &mut self.owed, take_word(pos));
+        self.owed -= 1;
+        log(&mut self.words, take_word(pos));
+    }
+
+    /// Reuses memory of records that were taken, if few are left. The chapter's value does not change.
+    pub(crate) fn compact(&mut self)
+        ensures same { self.new ≡ self.old }
+    {
+        self.closing.compact();
     }
 
     /// States the invariant of a chapter: it is legal from its opening, which is the summary of a legal history, and it
@@ -329,18 +317,6 @@ fn log(words: &mut Vec<u64>, word: u64)
     ensures space { vec_capacity words.old ≤ vec_capacity words.new }
 {
     words.push_reserved(word);
-}
-
-// Appends the word of an entry that was owed. Does not allocate.
-fn log_owed(words: &mut Vec<u64>, owed: &mut u32, word: u64)
-    requires owing { 0 < owed.old }
-    requires space { vec_len words.old < vec_capacity words.old }
-    ensures logged { words.new.items ≡ words.old.items ++ word ∷ [] }
-    ensures space { vec_capacity words.old ≤ vec_capacity words.new }
-    ensures owing { owed.new ≡ owed.old - 1 }
-{
-    *owed -= 1;
-    log(words, word);
 }
 
 // Returns whether a record of `len` bytes may be granted at the producer position.

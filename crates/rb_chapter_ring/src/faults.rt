@@ -1,5 +1,6 @@
 //! The faults that a ring's calls return.
 
+use std::alloc::AllocError;
 use thiserror::Error;
 
 /// Why a ring can't be created: the first of these that applies, in this order.
@@ -20,6 +21,17 @@ pub enum OpenFault {
     /// Memory for the ring could not be allocated.
     #[error("out of memory")]
     Memory,
+}
+
+impl From<AllocError> for OpenFault {
+    ghost use Rattle.std.specs.Prelude.{◌≡◌};
+    ghost use Rattle.rb_chapter_ring.specs.declared.faults.OpenFault.TheVariants.{Memory};
+
+    ghost from_gives = { λ _ fault. fault ≡ Memory };
+
+    fn from(_: AllocError) -> OpenFault {
+        OpenFault::Memory
+    }
 }
 
 /// Why no record was granted. The refused call returns the sheet.

@@ -21,9 +21,11 @@ mod take;
 use crate::faults::OpenFault;
 use crate::hand_table::{free_table, no_ordinals};
 use crate::reservation::Reservation;
-use crate::setup::{check_setup, empty_sheets, slots_for};
+use crate::setup::{empty_sheets, slots_for};
 use crate::{Chapter, OutRecord, lowest_free};
-use rb_history::{AVAIL_DATA, CONS_POS, Counts, PROD_POS, RING_SIZE};
+use rb_history::{
+    AVAIL_DATA, CONS_POS, Counts, PROD_POS, RING_SIZE, is_size, is_start, is_worker_count,
+};
 use rb_lend::Sheet;
 use std::alloc::Global;
 use std::marker::Model;
@@ -87,26 +89,26 @@ impl RingState {
         ensures workers { IsErrOf result OpenFault.Workers ↔ (IsRingSize size × IsStartPosition start × ¬ IsWorkerCount workers) }
         ensures chapter { IsErrOf result OpenFault.Chapter ↔ (IsRingSize size × IsStartPosition start × IsWorkerCount workers × ¬ IsChapterRoom room) }
     {
-        check_setup(size, start, workers, room)?;
-        let Ok(mut chapter) = Chapter::new(alloc, room, workers) else {
-            return Err(OpenFault::Memory);
-        };
+        if !is_size(size) {
+            return Err(OpenFault::Size);
+        }
+        if !is_start(start) {
+            return Err(OpenFault::Start);
+        }
+        if !is_worker_count(workers) {
+            return Err(OpenFault::Workers);
+        }
+        if !(8..=1_048_576).contains(&room) {
+            return Err(OpenFault::Chapter);
+        }
+        let mut chapter = Chapter::new(alloc, room, workers)?;
         chapter.open_first(size, start);
-        let Ok(sheets) = empty_sheets(alloc, slots_for(size, room)) else {
-            return Err(OpenFault::Memory);
-        };
-        let Ok(hands) = free_table(alloc, workers) else {
-            return Err(OpenFault::Memory);
-        };
-        let Ok(ordinals) = no_ordinals(alloc, workers) else {
-            return Err(OpenFault::Memory);
-        };
         Ok(RingState {
             tag,
             chapter,
-            sheets,
-            hands,
-            ordinals,
+            sheets: empty_sheets(alloc, slots_for(size, room))?,
+            hands: free_table(alloc, workers)?,
+            ordinals: no_ordinals(alloc, workers)?,
             refused: 0,
             discarded: 0,
         })

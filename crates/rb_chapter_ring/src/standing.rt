@@ -11,15 +11,19 @@ ghost use Rattle.rb_chapter_ring.specs.inner.StandingSteps.{with_refusal, with_g
 mod numbers;
 
 use crate::record_end::RecordEnd;
-use crate::setup::made_by;
 use crate::standing_lists::{
-    are_same_records, are_same_tallies, copy, count_end, count_made, count_refused, forget,
-    front_of, set_end, tally_of,
+    are_same_records, are_same_tallies, count_end, count_made, front_of, remove_front, set_end,
 };
 pub use numbers::StandingNumbers;
 use rb_history::{Tally, span};
 use std::alloc::{AllocError, Global};
 use std::marker::Model;
+
+// The number of taken records from which on `compact` reuses their memory, a quarter of a megabyte.
+const LEAST_TAKEN: usize = 8_192;
+
+// The largest number of records that `compact` moves.
+const MOST_MOVED: usize = 4_096;
 
 /// The status of a record that was not taken.
 #[derive(Clone, Copy, Debug, PartialEq, Eq)]
@@ -98,7 +102,7 @@ impl Standing {
         self.numbers = StandingNumbers::of_ring(size, start, self.numbers.workers);
         self.records.clear();
         self.first = 0;
-        forget(self.tallies.as_mut_slice());
+        self.tallies.as_mut_slice().fill(Tally::none());
     }
 
     // Copies the contents of another opening. Does not allocate.
@@ -113,7 +117,8 @@ impl Standing {
         self.records.clear();
         self.first = 0;
         let _within = self.records.extend_from_slice(other.records());
-        copy(self.tallies.as_mut_slice(), other.tallies.as_slice());
+        let tallies = self.tallies.as_mut_slice();
+        tallies.copy_from_slice(other.tallies.as_slice());
     }
 
     // Returns a copy, with room for at least `room` records.
@@ -142,7 +147,7 @@ impl Standing {
         ensures room { self.new.room ≡ self.old.room }
         ensures passed { self.new.passed ≡ self.old.passed }
     {
-        count_refused(self.tallies.as_mut_slice(), worker);
+        self.tallies[worker as usize].refused += 1;
     }
 
     // Adds the record of `len` bytes that the worker is granted next, and returns its serial.
@@ -184,6 +189,20 @@ impl Standing {
         record.pos
     }
 
+    // Moves the untaken records to the front of their memory, if they are few and many were taken. So a list whose
+    // records are taken in time uses little of its memory.
+    pub(crate) fn compact(&mut self)
+        ensures same { self.new.opening ≡ self.old.opening }
+        ensures room { self.new.room ≡ self.old.room }
+        ensures passed { self.new.passed ≤ self.old.passed }
+    {
+        let left = self.records.len() - self.first;
+        if self.first >= LEAST_TAKEN && left <= MOST_MOVED {
+            remove_front(&mut self.records, self.first);
+            self.first = 0;
+        }
+    }
+
     // Applies a take of the record at the front. Returns the consumer position before it.
     pub(crate) fn add_take(&mut self) -> u64
         requires some { 0 < length self.old.opening.records }
@@ -208,7 +227,7 @@ impl Standing {
         requires worker { worker < self.now.opening.setup.workers }
         ensures made { result ≡ (tally_at self.now.opening worker).made }
     {
-        made_by(self.tallies.as_slice(), worker)
+        self.tallies[worker as usize].made
     }
 
     // Returns the worker's totals.
@@ -216,7 +235,7 @@ impl Standing {
         requires worker { worker < self.now.opening.setup.workers }
         ensures tally { result ≡ tally_at self.now.opening worker }
     {
-        tally_of(self.tallies.as_slice(), worker)
+        self.tallies[worker as usize]
     }
 
     // Returns whether both have the same contents. Takes time linear in the numbers of records and of workers.

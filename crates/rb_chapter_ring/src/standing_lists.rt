@@ -1,6 +1,6 @@
 //! The lists of an opening: its records, and its workers' totals.
 
-ghost use Rattle.std.specs.Prelude.{◌≡◌, ◌+◌, ◌<◌, ◌^◌, ◌↔◌, IsTrue, drop, length, map, replicate, slice_index_or, slice_set};
+ghost use Rattle.std.specs.Prelude.{◌≡◌, ◌+◌, ◌<◌, ◌≤◌, ◌^◌, ◌↔◌, IsTrue, drop, length, map, replicate, slice_index_or, slice_set, vec_len, vec_capacity};
 ghost use Rattle.rb_chapter_ring.specs.Standing.{no_record, no_tally};
 ghost use Rattle.rb_chapter_ring.specs.UntakenRecords.{untaken_shown};
 ghost use Rattle.rb_chapter_ring.specs.RecordEnds.{status_of_end, tally_with_end};
@@ -8,21 +8,6 @@ ghost use Rattle.rb_chapter_ring.specs.RecordEnds.{status_of_end, tally_with_end
 use crate::record_end::RecordEnd;
 use crate::standing::UntakenRecord;
 use rb_history::Tally;
-
-/// Resets all totals to those of a worker without entries.
-pub(crate) fn forget(tallies: &mut [Tally])
-    ensures zeros { tallies.new ≡ replicate (length tallies.old) no_tally }
-{
-    tallies.fill(Tally::none());
-}
-
-/// Copies all totals from the other list.
-pub(crate) fn copy(tallies: &mut [Tally], other: &[Tally])
-    requires workers { length tallies.old ≡ length other.now }
-    ensures same { tallies.new ≡ other.now }
-{
-    tallies.copy_from_slice(other);
-}
 
 /// Returns whether the records are the same.
 pub(crate) fn are_same_records(records: &[UntakenRecord], others: &[UntakenRecord]) -> bool
@@ -38,14 +23,6 @@ pub(crate) fn are_same_tallies(tallies: &[Tally], others: &[Tally]) -> bool
     tallies == others
 }
 
-/// Returns the totals of the worker.
-pub(crate) fn tally_of(tallies: &[Tally], worker: u32) -> Tally
-    requires worker { worker < length tallies.now }
-    ensures tally { result ≡ slice_index_or tallies.now worker no_tally }
-{
-    tallies[worker as usize]
-}
-
 #[inline(always)]
 /// Counts a record that was granted to the worker, and returns how many had been granted to it before.
 pub(crate) fn count_made(tallies: &mut [Tally], worker: u32) -> u64
@@ -58,16 +35,6 @@ pub(crate) fn count_made(tallies: &mut [Tally], worker: u32) -> u64
     let before = tally.made;
     tally.made = before + 1;
     before
-}
-
-#[inline(always)]
-/// Counts a refusal of the worker.
-pub(crate) fn count_refused(tallies: &mut [Tally], worker: u32)
-    requires worker { worker < length tallies.old }
-    requires total { (slice_index_or tallies.old worker no_tally).refused < 2 ^ 62 }
-    ensures counted { tallies.new ≡ slice_set tallies.old worker (record (slice_index_or tallies.old worker no_tally) { refused = (slice_index_or tallies.old worker no_tally).refused + 1 }) }
-{
-    tallies[worker as usize].refused += 1;
 }
 
 #[inline(always)]
@@ -102,6 +69,17 @@ pub(crate) fn set_end(
     let status = end.status();
     records[place] = UntakenRecord { status, ..record };
     record
+}
+
+/// Removes the first records. The others move to the front of the memory.
+pub(crate) fn remove_front(records: &mut Vec<UntakenRecord>, many: usize)
+    requires within { many ≤ vec_len records.old }
+    ensures left { records.new.items ≡ drop many records.old.items }
+    ensures capacity { vec_capacity records.new ≡ vec_capacity records.old }
+{
+    let left = records.len() - many;
+    records.copy_within(many.., 0);
+    records.truncate(left);
 }
 
 /// Returns the first untaken record.

@@ -116,10 +116,10 @@ fn seconds<T: Clock>(rt: &T) -> u64 {
 
 impl<T: Clock + Eprint> Gate for Progress<'_, T> {
     #[inline]
-    fn at(&self, _worker: u32, _call: u64) {}
+    fn pass(&self, _worker: u32, _call: u64) {}
 
     #[inline]
-    fn after(&self, worker: u32, jobs: u64) {
+    fn after_job(&self, worker: u32, jobs: u64) {
         if !self.is_on {
             return;
         }

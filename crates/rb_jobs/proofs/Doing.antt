@@ -1,5 +1,5 @@
 -- What a run of the helpers over seats shows about a job.
-use Rattle.std.proofs.Common.{false, ◌≡◌, ◌≢◌, Err, ℕ, ◌+◌, ◌≤◌, List, [], ◌∷◌, ◌++◌, length, ap, sym, ◌∙◌, subst, arith}
+use Rattle.std.proofs.Common.{◌≡◌, ◌≢◌, Err, ℕ, ◌+◌, ◌≤◌, List, [], ◌∷◌, ◌++◌, length, ap, sym, ◌∙◌, subst, arith}
 use Rattle.std.proofs.lemmas.List.{length_push, length-map}
 use Rattle.std.proofs.lemmas.List.Sums.{count_by-le-length}
 use Rattle.std.specs.Prelude.{OnOk}
@@ -42,7 +42,7 @@ ran_by task answer calls old new told shows kept balanced led =
 
 -- the helpers were new, and are in this state after the run
 pub did_counted : (task : Task) (answer : JobAnswer) (calls : List (AnsweredCall SeatRecord)) (start now : AtSeats) (rings : List Shared) (room : ℕ)
-    (old new : List WorkerSeat) (before mid after : ℕ) → start ≡ record { rings = rings; seats = old; trace = []; room = room; unlogged = 0; due = false }
+    (old new : List WorkerSeat) (before mid after : ℕ) → start ≡ record { rings = rings; seats = old; trace = []; room = room; unlogged = 0 }
     → answer.unlogged ≡ now.unlogged → new ≡ now.seats → mid ≡ before → after ≡ counted_on mid (length now.trace)
     → TellsLength task.program task.context answer.result → RunMatches reserved_bytes with_record_bytes task.program task.context calls answer.result
     → answer.result ≢ Err Stray → OnOk answer.result (TraceBalances start.trace now.trace) → Leads start calls now → JobRanCounted task answer old new before after
@@ -78,7 +78,7 @@ calls_within program = let e = count-units_of program in let few = count_by-le-l
 
 -- a job leaves at most as many failures unlogged as a program has units
 pub few_unlogged : (start now : AtSeats) (calls : List (AnsweredCall SeatRecord)) (program : List Insn) (rings : List Shared) (seats : List WorkerSeat) (unlogged : ℕ)
-    → start ≡ record { rings = rings; seats = seats; trace = []; room = call_count program; unlogged = 0; due = false } → Leads start calls now → unlogged ≤ length now.trace → unit_count program ≤ 4096
+    → start ≡ record { rings = rings; seats = seats; trace = []; room = call_count program; unlogged = 0 } → Leads start calls now → unlogged ≤ length now.trace → unit_count program ≤ 4096
     → unlogged ≤ 4096
 few_unlogged start now calls program rings seats unlogged fresh leads within long =
     let all = calls_take_room start now calls leads in

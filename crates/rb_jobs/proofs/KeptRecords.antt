@@ -231,16 +231,16 @@ module _ (old new : AtSeats) where
   reserved-kept ring n flags answer call = reserve-kept old new ring n flags answer call.unlogged call.seats.0
 
   pub ended-keeps : (end : RecordEnd) (owned : SeatRecord) (flags : ℕ) (taken : Bool) → CallsHelpers (ended_call end owned flags taken) old new → (s : SeatRecord) → IsStillOut old s → record_name s ≢ record_name owned → IsStillOut new s
-  ended-keeps end owned flags taken call = end-keeps old new end owned flags taken new.due (ended_of owned flags taken new.due call.unlogged old.seats new.seats end call.seats).0
+  ended-keeps end owned flags taken call = end-keeps old new end owned flags taken call.due (ended_of owned flags taken call.due call.unlogged old.seats new.seats end call.seats).0
 
   pub ended-taken : (end : RecordEnd) (owned : SeatRecord) (flags : ℕ) (taken : Bool) → CallsHelpers (ended_call end owned flags taken) old new → IsStillOut old owned → taken ≡ true
-  ended-taken end owned flags taken call = end-never-back old new end owned flags taken new.due (ended_of owned flags taken new.due call.unlogged old.seats new.seats end call.seats).0
+  ended-taken end owned flags taken call = end-never-back old new end owned flags taken call.due (ended_of owned flags taken call.due call.unlogged old.seats new.seats end call.seats).0
 
   pub ended-frees : (end : RecordEnd) (owned : SeatRecord) (flags : ℕ) (taken : Bool) → CallsHelpers (ended_call end owned flags taken) old new → IsStillOut new owned → ⊥
-  ended-frees end owned flags taken call = end-frees old new end owned flags taken new.due (ended_of owned flags taken new.due call.unlogged old.seats new.seats end call.seats).0
+  ended-frees end owned flags taken call = end-frees old new end owned flags taken call.due (ended_of owned flags taken call.due call.unlogged old.seats new.seats end call.seats).0
 
   pub sent-keeps : (ring : ℕ) (bytes : List ℕ) (flags : ℕ) (answer : ℤ) → CallsHelpers (SentOut ring bytes flags answer) old new → (s : SeatRecord) → IsStillOut old s → IsStillOut new s
-  sent-keeps ring bytes flags answer call = output-keeps old new ring bytes flags answer new.due call.unlogged call.seats call.seats.answer_is.1
+  sent-keeps ring bytes flags answer call = output-keeps old new ring bytes flags answer call.due call.unlogged call.seats call.seats.answer_is.1
 
   pub queried-keeps : (ring what answer : ℕ) → CallsHelpers (Queried ring what answer) old new → (s : SeatRecord) → IsStillOut old s → IsStillOut new s
   queried-keeps ring what answer call = query-keeps old new ring what answer call.seats.0

@@ -61,5 +61,5 @@ leads_seats start now (call ∷ more) (mid, made, later) =
       room_is = omega (arith, room, left);
       unlogged = made.unlogged + all.unlogged;
       unlogged_is = omega (arith, count, counted);
-      seats_led = (mid.due, mid.seats, made.unlogged, all.unlogged, made.seats, all.seats_led, refl);
+      seats_led = (made.due, mid.seats, made.unlogged, all.unlogged, made.seats, all.seats_led, refl);
     }

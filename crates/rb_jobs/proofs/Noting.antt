@@ -22,17 +22,18 @@ use Rattle.rb_jobs.proofs.Ends.{is_note, of_ended}
 pub one_call : (call : AnsweredCall SeatRecord) (old new : AtSeats) → CallsHelpers call old new → Leads old (call ∷ []) new
 one_call call old new made = (new, made, refl)
 
-noted : (call : AnsweredCall SeatRecord) (old mid next : AtSeats) (unlogged due : Bool) → mid ≡ record old { seats = mid.seats } → next ≡ with_call mid (note_of call) unlogged due
+noted : (call : AnsweredCall SeatRecord) (old mid next : AtSeats) (unlogged due : Bool) → mid ≡ record old { seats = mid.seats } → next ≡ with_call mid (note_of call) unlogged
     → 0 < old.room → CallsSeats call due (cond unlogged 1 0) old.seats mid.seats → CallsHelpers call old next
 noted call old mid next unlogged due rest note room made =
     let left = ap (λ (h : AtSeats). h.room) note in let was = ap (λ (h : AtSeats). h.room) rest in
     record {
       rings_same = ap (λ (h : AtSeats). h.rings) note ∙ ap (λ (h : AtSeats). h.rings) rest;
-      trace_is = ap (λ (h : AtSeats). h.trace) note ∙ ap (λ (h : AtSeats). (with_call h (note_of call) unlogged due).trace) rest;
+      trace_is = ap (λ (h : AtSeats). h.trace) note ∙ ap (λ (h : AtSeats). (with_call h (note_of call) unlogged).trace) rest;
       room_is = omega (arith, left, was, room);
+      due = due;
       unlogged = cond unlogged 1 0;
       unlogged_is = ap (λ (h : AtSeats). h.unlogged) note ∙ ap (λ (h : AtSeats). h.unlogged + cond unlogged 1 0) rest;
-      seats = subst (λ (h : AtSeats). CallsSeats call h.due (cond unlogged 1 0) old.seats h.seats) (sym note) made;
+      seats = subst (λ (h : AtSeats). CallsSeats call due (cond unlogged 1 0) old.seats h.seats) (sym note) made;
     }
 
 abbrev fault_number : NoRecord → ℕ
@@ -114,7 +115,7 @@ reserve_seats ring n flags (Err fault) old new bad no_step at =
 
 reserve_noted : (old mid next : AtSeats) (ring n flags : ℕ) (answer : Result HandGranted NoRecord) → mid ≡ record old { seats = mid.seats } → IsErrOf answer BadFlags ↔ (flags ≢ 0)
     → (flags ≢ 0 → mid.seats ≡ old.seats) → (flags ≡ 0 → AtSeat ring (SeatReserves n answer) old.seats mid.seats) → 0 < old.room
-    → next ≡ with_call mid (Reserve ring n flags (is_ok answer)) (unlogged_in answer) false → CallsHelpers (Reserved ring n flags (record_in ring answer)) old next
+    → next ≡ with_call mid (Reserve ring n flags (is_ok answer)) (unlogged_in answer) → CallsHelpers (Reserved ring n flags (record_in ring answer)) old next
 reserve_noted old mid next ring n flags (Ok r) rest bad no_step at room note =
     noted (Reserved ring n flags (Some (record { ring = ring; reservation = r }))) old mid next false false rest note room (reserve_seats ring n flags (Ok r) old.seats mid.seats bad no_step at)
 reserve_noted old mid next ring n flags (Err fault) rest bad no_step at room note =
@@ -124,24 +125,23 @@ pub reserved : (old mid next : AtSeats) (ring n flags : ℕ) (answer : Result Ha
     → given ≡ record_in ring answer → granted ≡ is_ok answer → unlogged ≡ unlogged_in answer
     → mid ≡ record old { seats = mid.seats } → IsErrOf answer BadFlags ↔ (flags ≢ 0) → (flags ≢ 0 → mid.seats ≡ old.seats)
     → (flags ≡ 0 → AtSeat ring (SeatReserves n answer) old.seats mid.seats) → 0 < old.room
-    → next ≡ with_call mid (Reserve ring n flags granted) unlogged false → CallsHelpers (Reserved ring n flags given) old next
+    → next ≡ with_call mid (Reserve ring n flags granted) unlogged → CallsHelpers (Reserved ring n flags given) old next
 reserved old mid next ring n flags answer given granted unlogged given_is granted_is unlogged_is rest bad no_step at room note =
     subst (λ x. CallsHelpers (Reserved ring n flags x) old next) (sym given_is)
     (reserve_noted old mid next ring n flags answer rest bad no_step at room
-    (note ∙ ap (λ b. with_call mid (Reserve ring n flags b) unlogged false) granted_is ∙ ap (λ b. with_call mid (Reserve ring n flags (is_ok answer)) b false) unlogged_is))
+    (note ∙ ap (λ b. with_call mid (Reserve ring n flags b) unlogged) granted_is ∙ ap (λ b. with_call mid (Reserve ring n flags (is_ok answer)) b) unlogged_is))
 
 -- ---- submit and discard
 
-pub ended : {E : Type 0} (end : RecordEnd) (old mid next : AtSeats) (owned : SeatRecord) (flags : ℕ) (answer : Result Notice E) (taken logged due : Bool) (note : Done)
-    → taken ≡ is_ok answer → logged ≡ is_ok answer → due ≡ due_in answer → note ≡ ended_note end flags logged → mid ≡ record old { seats = mid.seats }
+pub ended : {E : Type 0} (end : RecordEnd) (old mid next : AtSeats) (owned : SeatRecord) (flags : ℕ) (answer : Result Notice E) (taken logged : Bool) (note : Done)
+    → taken ≡ is_ok answer → logged ≡ is_ok answer → note ≡ ended_note end flags logged → mid ≡ record old { seats = mid.seats }
     → RecordAnswered owned.ring (is_ok answer) (due_in answer) (SeatEnds end owned.reservation flags (is_ok answer) (due_in answer)) old.seats mid.seats
-    → 0 < old.room → next ≡ with_call mid note false due → CallsHelpers (ended_call end owned flags taken) old next
-ended end old mid next owned flags answer taken logged due note taken_is logged_is due_is note_is rest made room left =
+    → 0 < old.room → next ≡ with_call mid note false → CallsHelpers (ended_call end owned flags taken) old next
+ended end old mid next owned flags answer taken logged note taken_is logged_is note_is rest made room left =
     let told = note_is ∙ ap (λ b. ended_note end flags b) (logged_is ∙ sym taken_is) ∙ is_note end owned flags taken in
-    noted (ended_call end owned flags taken) old mid next false due rest (left ∙ ap (λ d. with_call mid d false due) told) room
-    (of_ended owned flags taken due 0 old.seats mid.seats end (
-      subst (λ d. RecordAnswered owned.ring taken d (SeatEnds end owned.reservation flags taken d) old.seats mid.seats) (sym due_is)
-          (subst (λ t. RecordAnswered owned.ring t (due_in answer) (SeatEnds end owned.reservation flags t (due_in answer)) old.seats mid.seats) (sym taken_is) made),
+    noted (ended_call end owned flags taken) old mid next false (due_in answer) rest (left ∙ ap (λ d. with_call mid d false) told) room
+    (of_ended owned flags taken (due_in answer) 0 old.seats mid.seats end (
+      subst (λ t. RecordAnswered owned.ring t (due_in answer) (SeatEnds end owned.reservation flags t (due_in answer)) old.seats mid.seats) (sym taken_is) made,
       refl,
     ))
 
@@ -195,19 +195,18 @@ output_seats ring bytes flags (Err (Refused fault)) old new bad no_step at =
     let few = few_flags (no_answer (Refused fault)) flags bad (λ e. absurd (omega (arith, e))) in
     not_output ring bytes flags _ old new few (not_sent_for ring (length bytes) (Refused fault) old new (at (at_most flags few)))
 
-pub output : (old mid next : AtSeats) (ring : ℕ) (bytes : List ℕ) (flags : ℕ) (answer : Result Notice NoRecord) (number : ℤ) (unlogged due : Bool)
-    → number ≡ output_number answer → unlogged ≡ unlogged_in answer → due ≡ due_in answer → mid ≡ record old { seats = mid.seats }
+pub output : (old mid next : AtSeats) (ring : ℕ) (bytes : List ℕ) (flags : ℕ) (answer : Result Notice NoRecord) (number : ℤ) (unlogged : Bool)
+    → number ≡ output_number answer → unlogged ≡ unlogged_in answer → mid ≡ record old { seats = mid.seats }
     → IsErrOf answer BadFlags ↔ (3 < flags) → (3 < flags → mid.seats ≡ old.seats) → (flags ≤ 3 → AtSeat ring (SeatSends bytes flags answer) old.seats mid.seats) → 0 < old.room
-    → next ≡ with_call mid (Output ring (length bytes) flags number) unlogged due → CallsHelpers (SentOut ring bytes flags number) old next
-output old mid next ring bytes flags answer number unlogged due number_is unlogged_is due_is rest bad no_step at room note =
-    noted (SentOut ring bytes flags number) old mid next unlogged due rest note room
-    (subst (λ x. CallsSeats (SentOut ring bytes flags x) due (cond unlogged 1 0) old.seats mid.seats) (sym number_is)
-    (subst (λ d. CallsSeats (SentOut ring bytes flags (output_number answer)) d (cond unlogged 1 0) old.seats mid.seats) (sym due_is)
+    → next ≡ with_call mid (Output ring (length bytes) flags number) unlogged → CallsHelpers (SentOut ring bytes flags number) old next
+output old mid next ring bytes flags answer number unlogged number_is unlogged_is rest bad no_step at room note =
+    noted (SentOut ring bytes flags number) old mid next unlogged (due_in answer) rest note room
+    (subst (λ x. CallsSeats (SentOut ring bytes flags x) (due_in answer) (cond unlogged 1 0) old.seats mid.seats) (sym number_is)
     (subst (λ u. CallsSeats (SentOut ring bytes flags (output_number answer)) (due_in answer) (cond u 1 0) old.seats mid.seats) (sym unlogged_is)
-    (output_seats ring bytes flags answer old.seats mid.seats bad no_step at))))
+    (output_seats ring bytes flags answer old.seats mid.seats bad no_step at)))
 
 -- ---- query
 
 pub queried : (old mid next : AtSeats) (ring what answer : ℕ) → mid ≡ record old { seats = mid.seats } → AtSeat ring (SeatQueries what answer) old.seats mid.seats → 0 < old.room
-    → next ≡ with_call mid (Query ring what answer) false false → CallsHelpers (Queried ring what answer) old next
+    → next ≡ with_call mid (Query ring what answer) false → CallsHelpers (Queried ring what answer) old next
 queried old mid next ring what answer rest at room note = noted (Queried ring what answer) old mid next false false rest note room (at, refl, refl)

@@ -11,15 +11,14 @@ use Rattle.rb_interp.specs.AnsweredCalls.{AnsweredCall, note_of}
 use Rattle.rb_jobs.specs.declared.seat_record.SeatRecord.{SeatRecord}
 use Rattle.rb_jobs.specs.SeatCalls.{CallsSeats}
 
--- the rings, the worker's seat at each of them, the calls so far, the room for more, the number of nulls for flags 0
--- and of -EAGAIN answers that no entry of a ring explains, and whether a notice is due after the last call
+-- the rings, the worker's seat at each of them, the calls so far, the room for more, and the number of nulls for flags 0
+-- and of -EAGAIN answers that no entry of a ring explains
 pub record AtSeats : Type 0 where
   pub rings : List Shared
   pub seats : List WorkerSeat
   pub trace : List Done
   pub room : ℕ
   pub unlogged : ℕ
-  pub due : Bool
 
 -- a ring with this number is among them
 abbrev pub has_number : AtSeats → ℕ → Bool
@@ -33,14 +32,16 @@ IsAt ring seat = (seat.tag ≡ ring.tag) × (seat.ring ≡ ring.ring)
 abbrev pub AtRings : List Shared → List WorkerSeat → Type 0
 AtRings rings seats = AllZip IsAt rings seats
 
--- one call was made with one of the seats, and appended to the trace with its answer
+-- one call was made with one of the seats, and appended to the trace with its answer; whether its ring made a notice
+-- due
 pub record CallsHelpers (call : AnsweredCall SeatRecord) (old new : AtSeats) : Type 0 where
   pub rings_same : new.rings ≡ old.rings
   pub trace_is : new.trace ≡ old.trace ++ note_of call ∷ []
   pub room_is : new.room + 1 ≡ old.room
+  pub due : Bool
   pub unlogged : ℕ
   pub unlogged_is : new.unlogged ≡ old.unlogged + unlogged
-  pub seats : CallsSeats call new.due unlogged old.seats new.seats
+  pub seats : CallsSeats call due unlogged old.seats new.seats
 
 -- these calls, the oldest first, lead from the old value to the new one
 abbrev pub Leads : AtSeats → List (AnsweredCall SeatRecord) → AtSeats → Type 0

@@ -1,18 +1,12 @@
 //! What a ring's result means for the helper call.
 
 ghost use Rattle.std.specs.Prelude.{◌≡◌};
-ghost use Rattle.rb_jobs.specs.inner.CallAnswers.{due_in, output_number, unlogged_in};
+ghost use Rattle.rb_jobs.specs.inner.CallAnswers.{output_number, unlogged_in};
 
 use crate::no_record::NoRecord;
 use rb_history::Notice;
 use rb_interp::{EAGAIN, EINVAL};
 use rb_shared_ring::ReserveFault;
-
-pub(crate) fn is_due<E>(answer: &Result<Notice, E>) -> bool
-    ensures { result ≡ due_in answer.now }
-{
-    matches!(answer, Ok(Notice::Due))
-}
 
 // Returns whether the call failed and no history records the failure.
 pub(crate) fn is_unlogged<T>(answer: &Result<T, NoRecord>) -> bool

@@ -31,16 +31,16 @@ pub trait Gate {
     ///
     /// Nothing is assumed about what a gate does; the helper call waits for it. That it is called, and with which
     /// numbers, is tested and not proved.
-    fn at(&self, worker: u32, call: u64);
+    fn pass(&self, worker: u32, call: u64);
 
     /// Is called after each job of a worker in a list of jobs, while no lock is held, with the number of jobs that the
     /// worker has run. Nothing is assumed about what it does. The default implementation does nothing.
-    fn after(&self, _worker: u32, _jobs: u64) {}
+    fn after_job(&self, _worker: u32, _jobs: u64) {}
 }
 
 /// A gate that does nothing.
 pub struct OpenGate;
 
 impl Gate for OpenGate {
-    fn at(&self, _worker: u32, _call: u64) {}
+    fn pass(&self, _worker: u32, _call: u64) {}
 }

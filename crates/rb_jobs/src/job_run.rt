@@ -1,14 +1,13 @@
 //! Runs of jobs.
 
-ghost use Rattle.std.specs.Prelude.{◌≡◌, ◌≤◌, [], false, length, IfOk, IfErr};
+ghost use Rattle.std.specs.Prelude.{◌≡◌, ◌≤◌, [], length, IfOk, IfErr};
 ghost use Rattle.rb_verifier.specs.Subject.{call_count};
 ghost use Rattle.rb_jobs.specs.SeatHelpers.{AtRings};
 ghost use Rattle.rb_jobs.specs.Jobs.{JobRanCounted, task_of};
 
-use crate::gated_helpers::GatedHelpers;
 use crate::job::{Gate, Job, JobAnswer};
 use crate::{SeatHelpers, SeatRecord, Stock};
-use rb_interp::{MachineRoom, run_in};
+use rb_interp::{Helpers, MachineRoom, run_in};
 use rb_shared_ring::{Seat, SharedRing};
 use std::alloc::{AllocError, Global};
 use std::marker::Model;
@@ -21,8 +20,9 @@ use std::sync::Wait;
 /// `u64::MAX`.
 #[derive(Drop)]
 pub struct JobRunner<'r, 'j, R, G, K> {
-    helpers: GatedHelpers<'r, SeatHelpers<'r, R, K>, G>,
+    helpers: SeatHelpers<'r, R, K, G>,
     machine: MachineRoom<'j, SeatRecord>,
+    calls: u64,
 }
 
 impl<'r, 'j, R, G, K> Model for JobRunner<'r, 'j, R, G, K> {
@@ -38,7 +38,7 @@ impl<'r, 'j, R, G, K> Model for JobRunner<'r, 'j, R, G, K> {
 
     ghost coded = { Prim.hlevel (codes, contents_code, table_id_coded, entry.the_row.coded, tally_row.the_row.coded, out_row.the_row.coded) };
 
-    ghost view = { λ r. record { rings = r.helpers.inner.rings; seats = r.helpers.inner.seats; calls = r.helpers.calls } };
+    ghost view = { λ r. record { rings = r.helpers.rings; seats = r.helpers.seats; calls = r.calls } };
 }
 
 impl<'r, 'j, R: Wait, G: Gate, K: Stock> JobRunner<'r, 'j, R, G, K> {
@@ -57,10 +57,10 @@ impl<'r, 'j, R: Wait, G: Gate, K: Stock> JobRunner<'r, 'j, R, G, K> {
         requires seats { AtRings rings.now seats.items }
         ensures new { result ≡ record { rings = rings.now; seats = seats.items; calls = calls } }
     {
-        let helpers = SeatHelpers::at_rest(rt, alloc, rings, seats, stock);
         JobRunner {
-            helpers: GatedHelpers::new(helpers, gate, calls),
+            helpers: SeatHelpers::at_rest(rt, alloc, rings, seats, stock, gate),
             machine: MachineRoom::new(),
+            calls,
         }
     }
 
@@ -77,8 +77,9 @@ impl<'r, 'j, R: Wait, G: Gate, K: Stock> JobRunner<'r, 'j, R, G, K> {
         ensures rings { self.new.rings ≡ self.old.rings }
         ensures nothing_ran { IfErr result (λ _. self.new ≡ self.old) }
     {
-        self.helpers.inner.begin(job.program.calls())?;
-        Ok(run_begun(&mut self.helpers, &mut self.machine, job))
+        self.helpers.begin(job.program.calls())?;
+        let answer = run_begun(&mut self.helpers, &mut self.machine, job, &mut self.calls);
+        Ok(answer)
     }
 
     /// Exchanges the worker's seats for others, at these rings and in their order. Returns the earlier seats. The
@@ -89,7 +90,7 @@ impl<'r, 'j, R: Wait, G: Gate, K: Stock> JobRunner<'r, 'j, R, G, K> {
         ensures returned { result.items ≡ self.old.seats }
         ensures at_rings { AtRings self.old.rings result.items }
     {
-        self.helpers.inner.exchange_seats(rings, seats)
+        self.helpers.exchange_seats(rings, seats)
     }
 
     /// Returns the seats, and the number of helper calls that the worker has finished.
@@ -98,28 +99,28 @@ impl<'r, 'j, R: Wait, G: Gate, K: Stock> JobRunner<'r, 'j, R, G, K> {
         ensures at_rings { AtRings self.entry.rings result.0.items }
         ensures calls { result.1 ≡ self.entry.calls }
     {
-        let calls = self.helpers.calls;
-        (self.helpers.into_inner().into_seats(), calls)
+        (self.helpers.into_seats(), self.calls)
     }
 }
 
-// Runs a job with helpers that have no calls yet and room for the job's calls.
+// Runs a job with helpers that have no calls yet and room for the job's calls, and counts the calls.
 fn run_begun<'j, R: Wait, G: Gate, K: Stock>(
-    helpers: &mut GatedHelpers<'_, SeatHelpers<'_, R, K>, G>,
+    helpers: &mut SeatHelpers<'_, R, K, G>,
     machine: &mut MachineRoom<'j, SeatRecord>,
     job: &Job<'j>,
+    calls: &mut u64,
 ) -> JobAnswer
-    requires rings { job.now.program.now.rings ≤ length helpers.old.inner.rings }
-    requires begun { helpers.old.inner ≡ record { rings = helpers.old.inner.rings; seats = helpers.old.inner.seats; trace = []; room = call_count job.now.program.now.program; unlogged = 0; due = false } }
-    ensures ran { JobRanCounted (task_of job.now) result helpers.old.inner.seats helpers.new.inner.seats helpers.old.calls helpers.new.calls }
+    requires rings { job.now.program.now.rings ≤ length helpers.old.rings }
+    requires begun { helpers.old ≡ record { rings = helpers.old.rings; seats = helpers.old.seats; trace = []; room = call_count job.now.program.now.program; unlogged = 0 } }
+    ensures ran { JobRanCounted (task_of job.now) result helpers.old.seats helpers.new.seats calls.old calls.new }
     ensures few { result.unlogged ≤ 4096 }
-    ensures rings { helpers.new.inner.rings ≡ helpers.old.inner.rings }
+    ensures rings { helpers.new.rings ≡ helpers.old.rings }
 {
     job.program.program().facts();
-    helpers.worker = job.worker;
+    helpers.count_from(job.worker, *calls);
     let result = run_in(job.program, job.ctx, helpers, machine);
-    helpers.calls = helpers.finished();
-    let unlogged = helpers.inner.unlogged();
+    *calls = calls.saturating_add(helpers.trace().len() as u64);
+    let unlogged = helpers.unlogged();
     JobAnswer { result, unlogged }
 }
 
@@ -148,12 +149,10 @@ pub fn run_job<R: Wait, G: Gate, K: Stock>(
     ensures seats { AtRings rings.now result.1.items }
 {
     let room = job.program.calls();
-    match SeatHelpers::new(rt, alloc, rings, seats, room, stock) {
-        Ok(helpers) => {
-            let mut gated = GatedHelpers::new(helpers, gate, *calls);
-            let answer = run_begun(&mut gated, &mut MachineRoom::new(), job);
-            *calls = gated.calls;
-            (Ok(answer), gated.into_inner().into_seats())
+    match SeatHelpers::new(rt, alloc, rings, seats, room, stock, gate) {
+        Ok(mut helpers) => {
+            let answer = run_begun(&mut helpers, &mut MachineRoom::new(), job, calls);
+            (Ok(answer), helpers.into_seats())
         }
         Err((refused, seats)) => (Err(refused), seats),
     }

@@ -21,12 +21,11 @@
 //! with bad flags changes none. The trace has each call with its result. Each null for flags 0 and each -EAGAIN is
 //! either recorded as a refusal in a ring's history, or counted as unlogged because the ring had no room for entries or
 //! memory could not be allocated. A granted record is accepted when it is submitted or discarded, whatever other
-//! threads did meanwhile (`specs/KeptRecords.antt`). A notice that is due is reported (`due`). The consequences for the
-//! seats' counts are stated as laws (`seats_rise`).
+//! threads did meanwhile (`specs/KeptRecords.antt`). The consequences for the seats' counts are stated as laws
+//! (`seats_rise`).
 #![tactic(auto)]
 
 mod call_answers;
-mod gated_helpers;
 mod job;
 mod job_laws;
 mod job_run;

@@ -11,7 +11,8 @@ ghost use Rattle.rb_jobs.specs.inner.CallAnswers.{SeatReserves, SeatSends, with_
 
 mod giving_back;
 
-use crate::call_answers::{answer_of, is_due, is_unlogged};
+use crate::call_answers::{answer_of, is_unlogged};
+use crate::job::Gate;
 use crate::no_record::NoRecord;
 use crate::ring_calls::{output_at, reserve_at};
 use crate::seat_record::SeatRecord;
@@ -27,21 +28,25 @@ use std::mem;
 use std::sync::Wait;
 
 /// Helper functions over the seats of one worker, one at each of a list of rings. A ring's number is its index in the
-/// list.
+/// list. Each call passes the worker's gate first.
 #[derive(Drop)]
-pub struct SeatHelpers<'h, R, S> {
+pub struct SeatHelpers<'h, R, S, G> {
     rt: &'h R,
     alloc: Global,
     stock: &'h S,
+    gate: &'h G,
     rings: &'h [SharedRing],
     seats: Vec<Seat>,
     trace: Vec<Done>,
     room: usize,
     unlogged: u64,
-    due: bool,
+    // The worker's number, and the number of calls that it had finished before those of the trace. Only the gate is
+    // given them.
+    worker: u32,
+    finished: u64,
 }
 
-impl<'h, R, S> Model for SeatHelpers<'h, R, S> {
+impl<'h, R, S, G> Model for SeatHelpers<'h, R, S, G> {
     ghost use Rattle.std.specs.Prelude.{◌+◌, ◌≤◌, ◌<◌, ◌^◌, vec_len, vec_capacity};
     ghost use Rattle.std.specs.Coded.{codes};
     ghost use Rattle.atomic_table.specs.Seated.{table_id_coded};
@@ -56,14 +61,16 @@ impl<'h, R, S> Model for SeatHelpers<'h, R, S> {
 
     ghost coded = { Prim.hlevel (codes, contents_code, table_id_coded, entry.the_row.coded, tally_row.the_row.coded, out_row.the_row.coded, done_row.the_row.coded) };
 
-    ghost view = { λ h. record { rings = h.rings.now; seats = h.seats.items; trace = h.trace.items; room = h.room; unlogged = h.unlogged; due = h.due } };
+    ghost view = { λ h. record { rings = h.rings.now; seats = h.seats.items; trace = h.trace.items; room = h.room; unlogged = h.unlogged } };
 
     ghost invariant = { λ h. AtRings h.rings.now h.seats.items × (vec_len h.trace + h.room ≤ vec_capacity h.trace) × (h.unlogged ≤ vec_len h.trace) × (vec_capacity h.trace < 2 ^ 63) };
 }
 
-impl<'h, R: Wait, S: Stock> SeatHelpers<'h, R, S> {
+impl<'h, R: Wait, S: Stock, G: Gate> SeatHelpers<'h, R, S, G> {
     /// Returns helpers over these rings and the worker's seats there, in the rings' order, with room for `room` calls.
     /// If the trace can't be allocated, returns the seats with the error.
+    ///
+    /// The gate is called with worker 0 and with the number of calls so far.
     pub fn new(
         rt: &'h R,
         alloc: Global,
@@ -71,9 +78,10 @@ impl<'h, R: Wait, S: Stock> SeatHelpers<'h, R, S> {
         seats: Vec<Seat>,
         room: usize,
         stock: &'h S,
-    ) -> Result<SeatHelpers<'h, R, S>, (AllocError, Vec<Seat>)>
+        gate: &'h G,
+    ) -> Result<SeatHelpers<'h, R, S, G>, (AllocError, Vec<Seat>)>
         requires seats { AtRings rings.now seats.items }
-        ensures new { IfOk result (λ h. h ≡ record { rings = rings.now; seats = seats.items; trace = []; room = room; unlogged = 0; due = false }) }
+        ensures new { IfOk result (λ h. h ≡ record { rings = rings.now; seats = seats.items; trace = []; room = room; unlogged = 0 }) }
         ensures handed_back { IfErr result (λ e. e.1 ≡ seats) }
     {
         match Vec::with_capacity(alloc, room) {
@@ -81,12 +89,14 @@ impl<'h, R: Wait, S: Stock> SeatHelpers<'h, R, S> {
                 rt,
                 alloc,
                 stock,
+                gate,
                 rings,
                 seats,
                 trace,
                 room,
                 unlogged: 0,
-                due: false,
+                worker: 0,
+                finished: 0,
             }),
             Err(refused) => Err((refused, seats)),
         }
@@ -100,33 +110,44 @@ impl<'h, R: Wait, S: Stock> SeatHelpers<'h, R, S> {
         rings: &'h [SharedRing],
         seats: Vec<Seat>,
         stock: &'h S,
-    ) -> SeatHelpers<'h, R, S>
+        gate: &'h G,
+    ) -> SeatHelpers<'h, R, S, G>
         requires seats { AtRings rings.now seats.items }
-        ensures new { result ≡ record { rings = rings.now; seats = seats.items; trace = []; room = 0; unlogged = 0; due = false } }
+        ensures new { result ≡ record { rings = rings.now; seats = seats.items; trace = []; room = 0; unlogged = 0 } }
     {
         SeatHelpers {
             rt,
             alloc,
             stock,
+            gate,
             rings,
             seats,
             trace: Vec::new(alloc),
             room: 0,
             unlogged: 0,
-            due: false,
+            worker: 0,
+            finished: 0,
         }
+    }
+
+    /// Sets what the gate is given before the next calls: the worker's number, and how many calls it had finished
+    /// before those of the trace.
+    pub(crate) fn count_from(&mut self, worker: u32, finished: u64)
+        ensures same { self.new ≡ self.old }
+    {
+        self.worker = worker;
+        self.finished = finished;
     }
 
     /// Clears the trace and makes room for `room` calls. Allocates only if the trace never had that much room. If the
     /// allocation fails, there is no room for a call.
     pub(crate) fn begin(&mut self, room: usize) -> Result<(), AllocError>
-        ensures begun { IfOk result (λ _. self.new ≡ record { rings = self.old.rings; seats = self.old.seats; trace = []; room = room; unlogged = 0; due = false }) }
-        ensures refused { IfErr result (λ _. self.new ≡ record { rings = self.old.rings; seats = self.old.seats; trace = []; room = 0; unlogged = 0; due = false }) }
+        ensures begun { IfOk result (λ _. self.new ≡ record { rings = self.old.rings; seats = self.old.seats; trace = []; room = room; unlogged = 0 }) }
+        ensures refused { IfErr result (λ _. self.new ≡ record { rings = self.old.rings; seats = self.old.seats; trace = []; room = 0; unlogged = 0 }) }
     {
         self.trace.clear();
         self.room = 0;
         self.unlogged = 0;
-        self.due = false;
         self.trace.reserve(room)?;
         self.room = room;
         Ok(())
@@ -158,17 +179,16 @@ impl<'h, R: Wait, S: Stock> SeatHelpers<'h, R, S> {
     {
         self.unlogged
     }
-
-    /// Returns whether a notice is due after the last call: it was a submit, a discard or an output that its ring
-    /// accepted, and the ring's consumer must be notified (bpf-helpers(7), BPF_RB_NO_WAKEUP and BPF_RB_FORCE_WAKEUP).
-    pub fn due(&self) -> bool
-        ensures due { result ≡ self.now.due }
-    {
-        self.due
-    }
 }
 
-impl<'h, R: Wait, S: Stock> SeatHelpers<'h, R, S> {
+impl<'h, R: Wait, S: Stock, G: Gate> SeatHelpers<'h, R, S, G> {
+    // Calls the gate with the number of calls that the worker has finished.
+    #[inline(always)]
+    fn pass_gate(&self) {
+        let finished = self.finished.saturating_add(self.trace.len() as u64);
+        self.gate.pass(self.worker, finished);
+    }
+
     // Reserves a record with the ring's seat, without adding the call to the trace. Its sheet is made before the ring's
     // lock is taken.
     fn try_reserve(&mut self, ring: u32, n: u32, flags: u64) -> Result<Reservation, NoRecord>
@@ -219,22 +239,20 @@ impl<'h, R: Wait, S: Stock> SeatHelpers<'h, R, S> {
         }
     }
 
-    // Adds a call with its result to the trace, counts it as unlogged if `unlogged` is set, and stores whether a notice
-    // is due.
-    fn log(&mut self, done: Done, unlogged: bool, due: bool)
+    // Adds a call with its result to the trace, and counts it as unlogged if `unlogged` is set.
+    fn log(&mut self, done: Done, unlogged: bool)
         requires room { 0 < self.old.room }
-        ensures noted { self.new ≡ with_call self.old done unlogged due }
+        ensures noted { self.new ≡ with_call self.old done unlogged }
     {
         self.trace.push_reserved(done);
         self.room -= 1;
         if unlogged {
             self.unlogged += 1;
         }
-        self.due = due;
     }
 }
 
-impl<'h, R: Wait, S: Stock> Helpers for SeatHelpers<'h, R, S> {
+impl<'h, R: Wait, S: Stock, G: Gate> Helpers for SeatHelpers<'h, R, S, G> {
     ghost use Rattle.rb_jobs.specs.SeatHelpers.{Leads, has_number};
     ghost use Rattle.rb_jobs.specs.KeptRecords.{IsStillOut, record_name};
     ghost use Rattle.rb_jobs.specs.inner.Chains.{none_called, called_on};
@@ -280,6 +298,7 @@ impl<'h, R: Wait, S: Stock> Helpers for SeatHelpers<'h, R, S> {
         ensures called { Leads self.old (Reserved ring n flags result ∷ []) self.new }
         ensures call { CallsHelpers (Reserved ring n flags result) self.old self.new }
     {
+        self.pass_gate();
         let answer = self.try_reserve(ring, n, flags);
         let unlogged = is_unlogged(&answer);
         match answer {
@@ -290,7 +309,7 @@ impl<'h, R: Wait, S: Stock> Helpers for SeatHelpers<'h, R, S> {
                     flags,
                     granted: true,
                 };
-                self.log(done, unlogged, false);
+                self.log(done, unlogged);
                 Some(SeatRecord { ring, reservation })
             }
             Err(_) => {
@@ -300,7 +319,7 @@ impl<'h, R: Wait, S: Stock> Helpers for SeatHelpers<'h, R, S> {
                     flags,
                     granted: false,
                 };
-                self.log(done, unlogged, false);
+                self.log(done, unlogged);
                 None
             }
         }
@@ -319,6 +338,7 @@ impl<'h, R: Wait, S: Stock> Helpers for SeatHelpers<'h, R, S> {
         ensures called { Leads self.old (Submitted owned flags (is_ok result) ∷ []) self.new }
         ensures call { CallsHelpers (Submitted owned flags (is_ok result)) self.old self.new }
     {
+        self.pass_gate();
         self.give_back(owned, RecordEnd::Submit, flags)
     }
 
@@ -335,6 +355,7 @@ impl<'h, R: Wait, S: Stock> Helpers for SeatHelpers<'h, R, S> {
         ensures called { Leads self.old (Discarded owned flags (is_ok result) ∷ []) self.new }
         ensures call { CallsHelpers (Discarded owned flags (is_ok result)) self.old self.new }
     {
+        self.pass_gate();
         self.give_back(owned, RecordEnd::Discard, flags)
     }
 
@@ -353,6 +374,7 @@ impl<'h, R: Wait, S: Stock> Helpers for SeatHelpers<'h, R, S> {
         ensures called { Leads self.old (SentOut ring bytes.now flags result ∷ []) self.new }
         ensures call { CallsHelpers (SentOut ring bytes.now flags result) self.old self.new }
     {
+        self.pass_gate();
         let answer = self.try_output(ring, bytes, flags);
         let unlogged = is_unlogged(&answer);
         let number = answer_of(&answer);
@@ -364,7 +386,6 @@ impl<'h, R: Wait, S: Stock> Helpers for SeatHelpers<'h, R, S> {
                 answer: number,
             },
             unlogged,
-            is_due(&answer),
         );
         number
     }
@@ -379,8 +400,9 @@ impl<'h, R: Wait, S: Stock> Helpers for SeatHelpers<'h, R, S> {
         ensures called { Leads self.old (Queried ring what result ∷ []) self.new }
         ensures call { CallsHelpers (Queried ring what result) self.old self.new }
     {
+        self.pass_gate();
         let answer = self.try_query(ring, what);
-        self.log(Done::Query { ring, what, answer }, false, false);
+        self.log(Done::Query { ring, what, answer }, false);
         answer
     }
 

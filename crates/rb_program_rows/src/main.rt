@@ -3,9 +3,9 @@
 //! corresponding line of the output.
 //!
 //! `stdin` has the rows that the gate runs, and `stdout` their answers, which were worked out independently of the
-//! code; `tools/rows program` draws more. A line that is empty or begins with `#` is repeated. `name WORD TEXT` defines
-//! `{WORD}` as this text in the rows after it, and `repeat WORD COUNT TEXT` defines it as the text repeated this often.
-//! `row.rt` has the other rows. A line that is none of them is answered with its number.
+//! code; `tools/trials rows program` draws more. A line that is empty or begins with `#` is repeated. `name WORD TEXT`
+//! defines `{WORD}` as this text in the rows after it, and `repeat WORD COUNT TEXT` defines it as the text repeated this
+//! often. `row.rt` has the other rows. A line that is none of them is answered with its number.
 #![tactic(auto)]
 
 mod arithmetic;

@@ -40,7 +40,7 @@ impl CallOrder {
 }
 
 impl Gate for CallOrder {
-    fn at(&self, worker: u32, call: u64) {
+    fn pass(&self, worker: u32, call: u64) {
         let next = self.next.get();
         if worker != 7 || call != next {
             self.other.set(true);

@@ -6,7 +6,7 @@ ghost use Rattle.rb_jobs.specs.SeatHelpers.{IsAt};
 use super::expected::same;
 use super::shared::{counts, is_next, len_of, opened, submit_filled};
 use rb_interp::{Done, EAGAIN, EINVAL, Helpers};
-use rb_jobs::{NoStock, SeatHelpers, SeatRecord, Stock};
+use rb_jobs::{NoStock, OpenGate, SeatHelpers, SeatRecord, Stock};
 use rb_lend::{Lent, Sheet};
 use rb_shared_ring::{Seat, SharedRing};
 use std::alloc::Global;
@@ -50,7 +50,15 @@ fn a_submitted_record_reaches_its_ring_alone(rt: HostRuntime) {
     let (second, two, mut consumer) = opened(&rt, rt.alloc(), 1, 8);
     let rings = [first, second];
     let seats = vec![in rt.alloc(); one, two].expect(&rt, "memory");
-    let opened = SeatHelpers::new(&rt, rt.alloc(), rings.as_slice(), seats, 2, &NoStock);
+    let opened = SeatHelpers::new(
+        &rt,
+        rt.alloc(),
+        rings.as_slice(),
+        seats,
+        2,
+        &NoStock,
+        &OpenGate,
+    );
     let mut helpers = opened.ok().expect(&rt, "memory");
     let before = helpers.room();
     let is_submitted = submit_filled(&mut helpers, 1, 8, 42);
@@ -98,7 +106,15 @@ fn outputs_and_queries_are_answered(rt: HostRuntime) {
     let (ring, seat, mut consumer) = opened(&rt, rt.alloc(), 0, 8);
     let rings = [ring];
     let seats = vec![in rt.alloc(); seat].expect(&rt, "memory");
-    let opened = SeatHelpers::new(&rt, rt.alloc(), rings.as_slice(), seats, 5, &NoStock);
+    let opened = SeatHelpers::new(
+        &rt,
+        rt.alloc(),
+        rings.as_slice(),
+        seats,
+        5,
+        &NoStock,
+        &OpenGate,
+    );
     let mut helpers = opened.ok().expect(&rt, "memory");
     let answers = output_and_queries(&mut helpers);
     same(
@@ -129,7 +145,15 @@ fn bad_flags_make_no_step_of_the_ring(rt: HostRuntime) {
     let (ring, seat, _consumer) = opened(&rt, rt.alloc(), 0, 8);
     let rings = [ring];
     let seats = vec![in rt.alloc(); seat].expect(&rt, "memory");
-    let opened = SeatHelpers::new(&rt, rt.alloc(), rings.as_slice(), seats, 5, &NoStock);
+    let opened = SeatHelpers::new(
+        &rt,
+        rt.alloc(),
+        rings.as_slice(),
+        seats,
+        5,
+        &NoStock,
+        &OpenGate,
+    );
     let mut helpers = opened.ok().expect(&rt, "memory");
     let answers = bad_and_good_flags(&mut helpers);
     same(
@@ -161,7 +185,15 @@ fn a_full_ring_is_refused_in_the_history(rt: HostRuntime) {
     let (ring, seat, _consumer) = opened(&rt, rt.alloc(), 0, 8);
     let rings = [ring];
     let seats = vec![in rt.alloc(); seat].expect(&rt, "memory");
-    let opened = SeatHelpers::new(&rt, rt.alloc(), rings.as_slice(), seats, 3, &NoStock);
+    let opened = SeatHelpers::new(
+        &rt,
+        rt.alloc(),
+        rings.as_slice(),
+        seats,
+        3,
+        &NoStock,
+        &OpenGate,
+    );
     let mut helpers = opened.ok().expect(&rt, "memory");
     let bytes = too_many_bytes(&rt, rt.alloc());
     let output = helpers.output(0, bytes.as_slice(), 0);
@@ -183,7 +215,15 @@ fn a_full_chapter_is_unlogged(rt: HostRuntime) {
     let (ring, seat, mut consumer) = opened(&rt, rt.alloc(), 0, 8);
     let rings = [ring];
     let seats = vec![in rt.alloc(); seat].expect(&rt, "memory");
-    let opened = SeatHelpers::new(&rt, rt.alloc(), rings.as_slice(), seats, 5, &NoStock);
+    let opened = SeatHelpers::new(
+        &rt,
+        rt.alloc(),
+        rings.as_slice(),
+        seats,
+        5,
+        &NoStock,
+        &OpenGate,
+    );
     let mut helpers = opened.ok().expect(&rt, "memory");
     let granted = [is_granted(&mut helpers, 8), is_granted(&mut helpers, 8)];
     let used = rings[0].used(&rt, &mut consumer);
@@ -218,7 +258,15 @@ fn a_seat_with_all_hands_out_is_granted_none_and_outputs(rt: HostRuntime) {
     drop_one(&rt, rt.alloc(), &ring, &mut seat);
     let rings = [ring];
     let seats = vec![in rt.alloc(); seat].expect(&rt, "memory");
-    let opened = SeatHelpers::new(&rt, rt.alloc(), rings.as_slice(), seats, 5, &NoStock);
+    let opened = SeatHelpers::new(
+        &rt,
+        rt.alloc(),
+        rings.as_slice(),
+        seats,
+        5,
+        &NoStock,
+        &OpenGate,
+    );
     let mut helpers = opened.ok().expect(&rt, "memory");
     let granted = [
         is_granted(&mut helpers, 8),
@@ -255,7 +303,15 @@ fn a_record_of_no_ring_or_of_another_is_handed_back(rt: HostRuntime) {
     let (second, two, _other_consumer) = opened(&rt, rt.alloc(), 1, 8);
     let rings = [first, second];
     let seats = vec![in rt.alloc(); one, two].expect(&rt, "memory");
-    let opened = SeatHelpers::new(&rt, rt.alloc(), rings.as_slice(), seats, 5, &NoStock);
+    let opened = SeatHelpers::new(
+        &rt,
+        rt.alloc(),
+        rings.as_slice(),
+        seats,
+        5,
+        &NoStock,
+        &OpenGate,
+    );
     let mut helpers = opened.ok().expect(&rt, "memory");
     let record = helpers.reserve(1, 8, 0).expect(&rt, "a record");
     let own = record.ring;
@@ -301,7 +357,15 @@ fn a_sheet_of_the_stock_is_used_again(rt: HostRuntime) {
     let rings = [ring];
     let seats = vec![in rt.alloc(); seat].expect(&rt, "memory");
     let stock = one_sheet(&rt, rt.alloc());
-    let opened = SeatHelpers::new(&rt, rt.alloc(), rings.as_slice(), seats, 3, &stock);
+    let opened = SeatHelpers::new(
+        &rt,
+        rt.alloc(),
+        rings.as_slice(),
+        seats,
+        3,
+        &stock,
+        &OpenGate,
+    );
     let mut helpers = opened.ok().expect(&rt, "memory");
     grants_zeros(&rt, &mut helpers);
     let used = len_of(stock.kept.take());

@@ -7,7 +7,7 @@ ghost use Rattle.rb_jobs.specs.SeatHelpers.{IsAt};
 use super::expected::{same, same_of};
 use super::shared::opened;
 use rb_interp::Helpers;
-use rb_jobs::{NoStock, SeatHelpers};
+use rb_jobs::{NoStock, OpenGate, SeatHelpers};
 use rb_lend::Sheet;
 use rb_shared_ring::{Seat, SharedRing, WaitBackoff};
 use std::alloc::Global;
@@ -166,7 +166,15 @@ fn a_worker_waits_at_a_full_ring(rt: HostRuntime) {
     let (other, two, _other_consumer) = opened(&rt, rt.alloc(), 1, 1_024);
     let rings = [full, other];
     let seats = vec![in rt.alloc(); one, two].expect(&rt, "memory");
-    let opened = SeatHelpers::new(&rt, rt.alloc(), rings.as_slice(), seats, 401, &NoStock);
+    let opened = SeatHelpers::new(
+        &rt,
+        rt.alloc(),
+        rings.as_slice(),
+        seats,
+        401,
+        &NoStock,
+        &OpenGate,
+    );
     let mut helpers = opened.ok().expect(&rt, "memory");
     grant(&rt, &mut helpers, 4_080);
     let (wait, output, refused) = shortest_times(&rt, &mut helpers, 200);
@@ -181,7 +189,15 @@ fn a_worker_waits_for_the_keeper_of_a_full_chapter(rt: HostRuntime) {
     let (other, mut free, _other_consumer) = opened(&rt, rt.alloc(), 1, 8);
     let rings = [ring];
     let seats = vec![in rt.alloc(); seat].expect(&rt, "memory");
-    let opened = SeatHelpers::new(&rt, rt.alloc(), rings.as_slice(), seats, 22, &NoStock);
+    let opened = SeatHelpers::new(
+        &rt,
+        rt.alloc(),
+        rings.as_slice(),
+        seats,
+        22,
+        &NoStock,
+        &OpenGate,
+    );
     let mut helpers = opened.ok().expect(&rt, "memory");
     grant(&rt, &mut helpers, 8);
     grant(&rt, &mut helpers, 8);

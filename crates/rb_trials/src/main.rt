@@ -1,6 +1,5 @@
 //! Trials of the library that are not tests: every order of turns (`orders`), real threads over several rings (`soak`),
-//! calls whose allocations fail (`sweep`), and a benchmark (`bench`). `tools/orders`, `tools/soak`, `tools/sweep` and
-//! `tools/bench` run one each.
+//! calls whose allocations fail (`sweep`), and a benchmark (`bench`). `tools/trials` and `tools/bench` run one each.
 //!
 //! The arguments are a trial's name and the trial's arguments, with `--` between two trials. The exit status is 0 if
 //! each trial succeeded, 2 for wrong arguments, and 1 otherwise; after a trial that failed no other is run.

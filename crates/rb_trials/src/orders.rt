@@ -1,5 +1,5 @@
 //! Every order of the steps of some workers and of the takes of a consumer, over one ring in a separate world each, and
-//! the final state of each order. `tools/orders` runs it, and compares each line with its own model of a ring.
+//! the final state of each order. `tools/trials orders` runs it, and compares each line with its own model of a ring.
 //!
 //! The arguments are TAKES AFTER LAST, and STEPS HEX for each worker. STEPS has the number of turns of each step of
 //! that worker, for example 4,5,2, and HEX is its program. TAKES takes of the consumer are interleaved with the steps

@@ -1,6 +1,6 @@
 //! Real threads over several shared rings at once: the workers of each ring output, reserve, submit and discard records
 //! by numbers drawn from a seed, and the ring's consumer takes them in batches, turns the ring's chapters, and checks
-//! everything that it takes. `tools/soak` runs it.
+//! everything that it takes. `tools/trials soak` runs it.
 //!
 //! The arguments are WORKERS RINGS SIZE ROOM STEPS SEED: RINGS rings of SIZE bytes, each with chapters of ROOM entries
 //! and with WORKERS workers, each of which makes STEPS steps. It prints the number of errors on stdout, which is 0, and

@@ -1,6 +1,6 @@
 //! Calls of the library that allocate, one after the other, each repeated once if it reports a failed allocation. It
-//! prints the state after each call. `tools/sweep` runs it with each allocation failing in turn, and compares the
-//! output.
+//! prints the state after each call. `tools/trials sweep` runs it with each allocation failing in turn, and compares
+//! the output.
 //!
 //! The argument names the calls: `ring`, `list`, `seats`, `shared` or `jobs`. A call that succeeded prints a line
 //! `CALL: STATE`, and one whose allocation failed a line `CALL memory: STATE`, with the state after it, or

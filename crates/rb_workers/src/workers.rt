@@ -103,7 +103,7 @@ impl Worker {
                 self.short = true;
                 break;
             }
-            gate.after(self.number, self.answers.len() as u64);
+            gate.after_job(self.number, self.answers.len() as u64);
         }
     }
 
@@ -128,6 +128,6 @@ impl Worker {
         let (seats, calls) = runner.into_seats();
         self.seats = seats;
         self.calls = calls;
-        gate.at(self.number, self.calls);
+        gate.pass(self.number, self.calls);
     }
 }

@@ -36,7 +36,7 @@ impl LastPosition {
 }
 
 impl Gate for LastPosition {
-    fn at(&self, _worker: u32, _call: u64) {}
+    fn pass(&self, _worker: u32, _call: u64) {}
 }
 
 impl TapeWatch for LastPosition {

@@ -40,18 +40,21 @@ impl RingState {
         if flags > KNOWN_FLAGS {
             return Err((ReserveFault::Flags, sheet));
         }
-        let consumer = self.chapter.closing().numbers().consumer;
+        let numbers = self.chapter.closing().numbers();
+        let notice = notice_for(numbers.consumer, numbers.producer, flags);
         let index = self.many();
-        let slot = slot_in(self.sheets.len(), self.next_ordinal());
         match self.chapter.grant(worker, sheet.len()) {
             Err(fault) => {
                 count_fault(&mut self.refused, fault);
                 Err((fault, sheet))
             }
-            Ok((pos, _)) => {
+            Ok(_) => {
+                let numbers = self.chapter.closing().numbers();
+                let ordinal = numbers.consumed + numbers.skipped + index as u64;
+                let slot = slot_in(self.sheets.len(), ordinal);
                 keep_bytes(&mut self.sheets, slot, sheet, RecordEnd::Submit);
                 self.chapter.log_end(index, RecordEnd::Submit);
-                Ok(notice_for(consumer, pos, flags))
+                Ok(notice)
             }
         }
     }

@@ -48,7 +48,8 @@ impl RingState {
     /// reservation.)
     ///
     /// It stops before the first take that finds a busy record or no record, so it pushes neither `BusyFront` nor
-    /// `Empty`. Takes constant time for each record and does not allocate.
+    /// `Empty`. Takes constant time for each record, after it has moved up to 4,096 untaken records in memory. Does not
+    /// allocate.
     pub fn take_many(&mut self, n: usize, out: &mut Vec<Taken>) -> usize
         requires room { vec_len out.old + n ≤ vec_capacity out.old }
         ensures same_tag { self.new.tag ≡ self.old.tag }
@@ -59,6 +60,7 @@ impl RingState {
         ensures count { result ≡ length (pushed out.old.items out.new.items) }
         ensures capacity { vec_capacity out.new ≡ vec_capacity out.old }
     {
+        self.compact();
         for count in 0..n {
             match self.take() {
                 Taken::BusyFront | Taken::Empty => return count,
@@ -66,5 +68,12 @@ impl RingState {
             }
         }
         n
+    }
+
+    // Reuses memory of records that were taken, if few are left.
+    fn compact(&mut self)
+        ensures same { self.new ≡ self.old }
+    {
+        self.chapter.compact();
     }
 }

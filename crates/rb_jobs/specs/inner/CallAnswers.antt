@@ -79,5 +79,5 @@ output_number (Err NoSheet) = neg_ℤ EAGAIN
 output_number (Err (Refused _)) = neg_ℤ EAGAIN
 
 -- the helpers after a call was appended to the trace
-abbrev pub with_call : AtSeats → Done → Bool → Bool → AtSeats
-with_call h done unlogged due = record h { trace = h.trace ++ done ∷ []; room = h.room - 1; unlogged = h.unlogged + cond unlogged 1 0; due = due }
+abbrev pub with_call : AtSeats → Done → Bool → AtSeats
+with_call h done unlogged = record h { trace = h.trace ++ done ∷ []; room = h.room - 1; unlogged = h.unlogged + cond unlogged 1 0 }

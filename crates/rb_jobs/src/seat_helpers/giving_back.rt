@@ -6,7 +6,7 @@ ghost use Rattle.rb_jobs.specs.SeatHelpers.{CallsHelpers, Leads, has_number};
 ghost use Rattle.rb_jobs.specs.inner.CallAnswers.{due_in};
 ghost use Rattle.rb_jobs.specs.inner.RecordEnds.{SeatEnds, ended_call, ended_note};
 
-use crate::call_answers::is_due;
+use crate::job::Gate;
 use crate::seat_helpers::SeatHelpers;
 use crate::seat_record::SeatRecord;
 use crate::stock::Stock;
@@ -16,7 +16,7 @@ use rb_interp::Done;
 use rb_shared_ring::Reservation;
 use std::sync::Wait;
 
-impl<'h, R: Wait, S: Stock> SeatHelpers<'h, R, S> {
+impl<'h, R: Wait, S: Stock, G: Gate> SeatHelpers<'h, R, S, G> {
     #[inline(always)]
     // Submits or discards the record with the seat at its ring, and adds the call to the trace. Returns the record if
     // its ring is not among the helpers' rings, or if it is not out in a hand of the seat there.
@@ -36,14 +36,13 @@ impl<'h, R: Wait, S: Stock> SeatHelpers<'h, R, S> {
     {
         let SeatRecord { ring, reservation } = owned;
         let answer = self.try_give_back(ring, reservation, end, flags);
-        let due = is_due(&answer);
         match answer {
             Ok(_) => {
-                self.log(note_of_end(end, flags, true), false, due);
+                self.log(note_of_end(end, flags, true), false);
                 Ok(())
             }
             Err(reservation) => {
-                self.log(note_of_end(end, flags, false), false, due);
+                self.log(note_of_end(end, flags, false), false);
                 Err(SeatRecord { ring, reservation })
             }
         }

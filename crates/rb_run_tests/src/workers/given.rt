@@ -132,7 +132,7 @@ impl Free {
 }
 
 impl Gate for Free {
-    fn at(&self, worker: u32, call: u64) {
+    fn pass(&self, worker: u32, call: u64) {
         if worker == 0 {
             self.first.fetch_add(1, Ordering::SeqCst);
         } else {
@@ -141,7 +141,7 @@ impl Gate for Free {
         }
     }
 
-    fn after(&self, _worker: u32, jobs: u64) {
+    fn after_job(&self, _worker: u32, jobs: u64) {
         self.jobs.fetch_add(1, Ordering::SeqCst);
         self.numbers.fetch_add(jobs, Ordering::SeqCst);
     }
@@ -175,7 +175,7 @@ impl HoldingGate {
 }
 
 impl Gate for HoldingGate {
-    fn at(&self, worker: u32, call: u64) {
+    fn pass(&self, worker: u32, call: u64) {
         if worker > 1 {
             return;
         }

@@ -74,7 +74,7 @@ impl Meeting {
 }
 
 impl Gate for Meeting {
-    fn at(&self, _worker: u32, call: u64) {
+    fn pass(&self, _worker: u32, call: u64) {
         if call == 0 {
             self.wait(&self.idle, 1);
         }
@@ -83,7 +83,7 @@ impl Gate for Meeting {
         }
     }
 
-    fn after(&self, _worker: u32, _jobs: u64) {
+    fn after_job(&self, _worker: u32, _jobs: u64) {
         self.ended.fetch_add(1, Ordering::SeqCst);
     }
 }

@@ -1,25 +1,23 @@
-use Rattle.std.proofs.Common.{◌≡◌, ◌+◌, ◌%◌, ◌<◌, ◌↔◌, length, refl, sym, ap, ◌∙◌, subst, arith}
+use Rattle.std.proofs.Common.{◌≡◌, ◌+◌, ◌%◌, ◌<◌, ◌^◌, ◌↔◌, length, refl, sym, ap, ◌∙◌, subst, arith}
 use Rattle.rb_history.specs.declared.answers.Notice.TheVariants.{Due}
 use Rattle.rb_history.specs.NoticesAndQueries.{IsDue}
 use Rattle.rb_chapter_ring.specs.Standing.{Standing}
-use Rattle.rb_chapter_ring.specs.Chapters.{closing_of}
 use Rattle.rb_chapter_ring.specs.ChapterCalls.{OutputsByChapter, consumer_by_chapter, producer_by_chapter}
 use Rattle.rb_chapter_ring.specs.HandRing.{hand_ring}
 use Rattle.rb_chapter_ring.specs.RingFaults.{RefusesInChapter}
 use Rattle.rb_chapter_ring.specs.TaggedRing.{TaggedRing}
 use Rattle.rb_chapter_ring.specs.inner.ChapterSteps.{GrantsRecord, RefusesRecord}
-use Rattle.rb_chapter_ring.specs.inner.Ordinals.{taken_before}
 use Rattle.rb_chapter_ring.specs.inner.RingBody.{parts_of, ring_in}
-use Rattle.rb_chapter_ring.proofs.RingSteps.{RefusesParts, OutputsParts, after_request, after_end, refuses, granted-is-busy, outputs}
+use Rattle.rb_chapter_ring.proofs.RingSteps.{RefusesParts, OutputsParts, after_request, after_end, refuses, granted-is-busy, granted-ordinal, outputs}
 use Rattle.rb_chapter_ring.proofs.StateSteps.{refused-holds, output-holds}
 use Rattle.rb_chapter_ring.proofs.ring.RingState.output.Goals as goal
-use Rattle.rb_chapter_ring.proofs.ring.RingState.output.Goals.{After-count_fault, After-notice_for}
+use Rattle.rb_chapter_ring.proofs.ring.RingState.output.Goals.{After-count_fault, After-log_end}
 
 refused : (c : After-count_fault) → RefusesParts (parts_of c.self.inside) (after_request (parts_of c.self.inside) c.grant.new.self c.count_fault.new.refused) c.args.worker (length c.args.sheet) c.in-Err.fault
 refused c =
     let p = parts_of c.self.inside in
     let low = subst (λ (s : TaggedRing). c.args.worker < s.state.ring.chapter.opening.setup.workers) (sym c.self.view_is) c.requires.worker in
-    let is = subst (λ n. RefusesRecord p.chapter c.grant.new.self c.args.worker n c.in-Err.fault) c.len-2.ensures c.in-Err.ensures.refused in
+    let is = subst (λ n. RefusesRecord p.chapter c.grant.new.self c.args.worker n c.in-Err.fault) c.len.ensures c.in-Err.ensures.refused in
     refuses p c.self.invariant.parts c.args.worker (length c.args.sheet) low c.grant.new.self c.count_fault.new.refused c.in-Err.fault is c.count_fault.ensures.counted
 
 pub invariant_of-self : goal.invariant_of-self
@@ -44,23 +42,47 @@ pub log_end-requires : goal.log_end-requires
 log_end-requires c =
     let p = parts_of c.self.inside in
     let low = subst (λ (s : TaggedRing). c.args.worker < s.state.ring.chapter.opening.setup.workers) (sym c.self.view_is) c.requires.worker in
-    let is = subst (λ n. GrantsRecord p.chapter c.grant.new.self c.args.worker n c.in-Ok.pos c.in-Ok.field-0-1) c.len-2.ensures c.in-Ok.ensures.granted in
+    let is = subst (λ n. GrantsRecord p.chapter c.grant.new.self c.args.worker n c.in-Ok.field-0.0 c.in-Ok.field-0.1) c.len.ensures c.in-Ok.ensures.granted in
     let index = c.many-index.ensures.many ∙ ap (λ (s : TaggedRing). length s.state.ring.shown) (sym c.self.view_is) in
-    record { busy = granted-is-busy p c.self.invariant.parts c.args.worker c.args.sheet low c.grant.new.self c.in-Ok.pos c.in-Ok.field-0-1 is c.many-index.result index }
+    record { busy = granted-is-busy p c.self.invariant.parts c.args.worker c.args.sheet low c.grant.new.self c.in-Ok.field-0.0 c.in-Ok.field-0.1 is c.many-index.result index }
 
-output : (c : After-notice_for) → OutputsParts (parts_of c.self.inside) (after_end (parts_of c.self.inside) c.log_end.new.self c.keep_bytes.new.sheets.items c.self.inside.discarded) c.args.worker c.args.sheet
+pub overflow_add-ordinal : goal.overflow_add-ordinal
+overflow_add-ordinal c =
+    let p = parts_of c.self.inside in
+    let low = subst (λ (s : TaggedRing). c.args.worker < s.state.ring.chapter.opening.setup.workers) (sym c.self.view_is) c.requires.worker in
+    let is = subst (λ n. GrantsRecord p.chapter c.grant.new.self c.args.worker n c.in-Ok.field-0.0 c.in-Ok.field-0.1) c.len.ensures c.in-Ok.ensures.granted in
+    let index = c.many-index.ensures.many ∙ ap (λ (s : TaggedRing). length s.state.ring.shown) (sym c.self.view_is) in
+    let below = granted-ordinal p c.self.invariant.parts c.args.worker c.args.sheet low c.grant.new.self c.in-Ok.field-0.0 c.in-Ok.field-0.1 is c.many-index.result index in
+    let consumed = c.numbers-numbers-in-Ok.ensures.consumed ∙ ap (λ (o : Standing). o.consumed) c.closing-in-Ok.ensures.closing in
+    let skipped = c.numbers-numbers-in-Ok.ensures.skipped ∙ ap (λ (o : Standing). o.skipped) c.closing-in-Ok.ensures.closing in
+    let fits : c.numbers-numbers-in-Ok.result.consumed + c.numbers-numbers-in-Ok.result.skipped + c.many-index.result < 2 ^ 64 = omega (arith, below, consumed, skipped) in
+    omega (arith, fits)
+
+pub overflow_add-ordinal-in-Ok : goal.overflow_add-ordinal-in-Ok
+overflow_add-ordinal-in-Ok c =
+    let p = parts_of c.self.inside in
+    let low = subst (λ (s : TaggedRing). c.args.worker < s.state.ring.chapter.opening.setup.workers) (sym c.self.view_is) c.requires.worker in
+    let is = subst (λ n. GrantsRecord p.chapter c.grant.new.self c.args.worker n c.in-Ok.field-0.0 c.in-Ok.field-0.1) c.len.ensures c.in-Ok.ensures.granted in
+    let index = c.many-index.ensures.many ∙ ap (λ (s : TaggedRing). length s.state.ring.shown) (sym c.self.view_is) in
+    let below = granted-ordinal p c.self.invariant.parts c.args.worker c.args.sheet low c.grant.new.self c.in-Ok.field-0.0 c.in-Ok.field-0.1 is c.many-index.result index in
+    let consumed = c.numbers-numbers-in-Ok.ensures.consumed ∙ ap (λ (o : Standing). o.consumed) c.closing-in-Ok.ensures.closing in
+    let skipped = c.numbers-numbers-in-Ok.ensures.skipped ∙ ap (λ (o : Standing). o.skipped) c.closing-in-Ok.ensures.closing in
+    let fits : c.numbers-numbers-in-Ok.result.consumed + c.numbers-numbers-in-Ok.result.skipped + c.many-index.result < 2 ^ 64 = omega (arith, below, consumed, skipped) in
+    omega (arith, fits)
+
+output : (c : After-log_end) → OutputsParts (parts_of c.self.inside) (after_end (parts_of c.self.inside) c.log_end.new.self c.keep_bytes.new.sheets.items c.self.inside.discarded) c.args.worker c.args.sheet
 output c =
     let a = c.self.inside in
     let p = parts_of a in
     let i = c.self.invariant.parts in
     let low = subst (λ (s : TaggedRing). c.args.worker < s.state.ring.chapter.opening.setup.workers) (sym c.self.view_is) c.requires.worker in
-    let is = subst (λ n. GrantsRecord p.chapter c.grant.new.self c.args.worker n c.in-Ok.pos c.in-Ok.field-0-1) c.len-2.ensures c.in-Ok.ensures.granted in
+    let is = subst (λ n. GrantsRecord p.chapter c.grant.new.self c.args.worker n c.in-Ok.field-0.0 c.in-Ok.field-0.1) c.len.ensures c.in-Ok.ensures.granted in
     let index = c.many-index.ensures.many ∙ ap (λ (s : TaggedRing). length s.state.ring.shown) (sym c.self.view_is) in
-    let long : c.many-index.result ≡ length (closing_of p.chapter).records = index ∙ ap length i.ring.stands.shown in
-    let next = c.next_ordinal.ensures.ordinal ∙ ap (λ (s : TaggedRing). taken_before (closing_of s.state.ring.chapter) + length (closing_of s.state.ring.chapter).records) (sym c.self.view_is) ∙ ap (λ n. taken_before (closing_of p.chapter) + n) (sym long) in
-    let many = c.len.ensures ∙ a.sheets.ok.0 in
-    let slot = c.slot_in-slot.ensures.value ∙ (λ j. next j % many j) in
-    outputs p i c.args.worker c.args.sheet low c.grant.new.self c.in-Ok.pos c.in-Ok.field-0-1 is c.many-index.result index c.slot_in-slot.result slot (omega (arith, c.slot_in-slot.ensures.within, many))
+    let consumed = c.numbers-numbers-in-Ok.ensures.consumed ∙ ap (λ (o : Standing). o.consumed) c.closing-in-Ok.ensures.closing in
+    let skipped = c.numbers-numbers-in-Ok.ensures.skipped ∙ ap (λ (o : Standing). o.skipped) c.closing-in-Ok.ensures.closing in
+    let many = c.len-in-Ok.ensures ∙ a.sheets.ok.0 in
+    let slot = c.slot_in-slot.ensures.value ∙ (λ j. (consumed j + skipped j + c.many-index.result) % many j) in
+    outputs p i c.args.worker c.args.sheet low c.grant.new.self c.in-Ok.field-0.0 c.in-Ok.field-0.1 is c.many-index.result index c.slot_in-slot.result slot (omega (arith, c.slot_in-slot.ensures.within, many))
     c.log_end.new.self c.log_end.ensures.logged c.keep_bytes.new.sheets.items c.keep_bytes.ensures.kept
 
 pub invariant_of-self-in-Ok : goal.invariant_of-self-in-Ok
@@ -83,8 +105,7 @@ returns-in-Ok-clause-granted c =
 
 pub returns-in-Ok-clause-notice : goal.returns-in-Ok-clause-notice
 returns-in-Ok-clause-notice c =
-    let v = c.self.view_is in
-    let consumer = c.numbers-consumer.ensures.consumer ∙ ap (λ (o : Standing). o.consumer) c.closing.ensures.closing ∙ ap (λ (s : TaggedRing). consumer_by_chapter s.state.ring) v in
-    let producer = c.in-Ok.ensures.granted.position ∙ ap (λ (s : TaggedRing). producer_by_chapter s.state.ring) v in
-    subst (λ p. (c.notice_for.result ≡ Due) ↔ IsDue (consumer_by_chapter c.args.self.now.state.ring) p c.args.flags) producer
-    (subst (λ n. (c.notice_for.result ≡ Due) ↔ IsDue n c.in-Ok.pos c.args.flags) consumer c.notice_for.ensures.due)
+    let consumer = c.numbers-numbers.ensures.consumer ∙ ap (λ (o : Standing). o.consumer) c.closing.ensures.closing ∙ ap (λ (s : TaggedRing). consumer_by_chapter s.state.ring) c.self.view_is in
+    let producer = c.numbers-numbers.ensures.producer ∙ ap (λ (o : Standing). o.producer) c.closing.ensures.closing ∙ ap (λ (s : TaggedRing). producer_by_chapter s.state.ring) c.self.view_is in
+    subst (λ p. (c.notice_for-notice.result ≡ Due) ↔ IsDue (consumer_by_chapter c.args.self.now.state.ring) p c.args.flags) producer
+    (subst (λ n. (c.notice_for-notice.result ≡ Due) ↔ IsDue n c.numbers-numbers.result.producer c.args.flags) consumer c.notice_for-notice.ensures.due)

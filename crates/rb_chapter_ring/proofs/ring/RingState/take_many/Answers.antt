@@ -1,4 +1,5 @@
-use Rattle.std.proofs.Common.{◌<◌, ◌∷◌, [], inl, inr, length, length-append, arith, ap, sym, ◌∙◌, subst}
+use Rattle.std.proofs.Common.{◌≡◌, ◌<◌, ◌∷◌, ◌++◌, [], inl, inr, length, length-append, append-nil, arith, ap, sym, ◌∙◌, refl, subst}
+use Rattle.std.proofs.lemmas.List.{drop_all}
 use Rattle.rb_history.proofs.ManyTakes.{has-record, pushed-more, kept-more}
 use Rattle.rb_history.specs.ManyTakes.{pushed}
 use Rattle.rb_chapter_ring.specs.ChapterCalls.{TakesByChapter}
@@ -38,3 +39,17 @@ loop-count-preserved c =
 
 pub returns-clause-takes : goal.returns-clause-takes
 returns-clause-takes c = takes-all c.args.n _ _ _ c.loop-count.invariant.each (omega arith)
+
+pub loop-count-init : goal.loop-count-init
+loop-count-init c =
+    let xs = c.args.out.now.items in
+    let none : pushed xs xs ≡ [] = drop_all (length xs) xs (omega arith) in
+    rw c.compact.ensures.same (record {
+      same_tag = refl;
+      same_chapter = refl;
+      each = subst (λ ts. TakesEachInChapter c.args.self.now.state.ring ts c.args.self.now.state.ring) (sym none) refl;
+      same_hands = refl;
+      kept = sym (append-nil xs) ∙ ap (λ zs. xs ++ zs) (sym none);
+      count_is = sym (ap length none);
+      capacity = refl;
+    })

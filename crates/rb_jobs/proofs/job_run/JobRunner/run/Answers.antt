@@ -7,4 +7,4 @@ use Rattle.rb_jobs.proofs.job_run.JobRunner.run.Goals as goal
 pub returns-clause-ran : goal.returns-clause-ran
 returns-clause-ran g c =
     counted_as (task_of c.args.job.now) _ _ _ _ _ _ _ _ _ (ap (λ (h : AtSeats). h.seats) c.in_ok-begin.ensures.begun ∙ ap (λ (r : WorkerAtRings). r.seats) c.self.view_is)
-    refl (ap (λ (r : WorkerAtRings). r.calls) c.self.view_is) refl c.run_begun.ensures.ran
+    refl (ap (λ (r : WorkerAtRings). r.calls) c.self.view_is) refl c.run_begun-answer.ensures.ran

@@ -1,0 +1,1 @@
+"""Measurements of the programs beside their yardsticks."""

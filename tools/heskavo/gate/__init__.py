@@ -1,0 +1,1 @@
+"""The checks before a commit and before a push."""

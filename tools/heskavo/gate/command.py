@@ -1,0 +1,65 @@
+"""The gate: proofs, tests, programs and the mutants that the prover must refuse.
+
+Each part prints what it passed, and the last line adds them up: 'N passed, M failed'. If the proofs fail, the other
+parts are not run. Before the last line come the processor minutes of each crate, and the processor time of all parts.
+With a COMMAND it runs only that, and prints the processor minutes of the checks that it starts.
+
+One check runs on each processor, with one job: several jobs of one check would take more processor time. Results kept by
+an earlier run take no time and are listed above the table: to measure the whole gate, run it in a fresh clone without
+other load. The status is 1 if anything failed.
+"""
+import argparse
+import os
+import tempfile
+from pathlib import Path
+
+from heskavo.gate import parts, unit_tests
+from heskavo.gate.times import Times
+
+# The prover's allocator keeps its memory, one or two gigabytes, and uses pages of 2 MiB if the machine has reserved any.
+ALLOCATOR = {"MIMALLOC_ALLOW_LARGE_OS_PAGES": "1", "MIMALLOC_PURGE_DELAY": "-1"}
+
+
+def run_all(times: Times) -> list[parts.Result]:
+    """Runs the parts, and returns their results."""
+    with tempfile.TemporaryDirectory(prefix="gate-") as name:
+        kept = Path(name)
+        results = [parts.run(["rt", "ci"], times, kept)]
+        if results[0].failed == 0:
+            results += [
+                parts.run(["tools/refused", "--over-gate", name], times),
+                parts.run(["tools/refused", "--uncovered"]),
+                parts.run(unit_tests.command("test_refused.py", "test_header.py")),
+                parts.run(["tools/check"]),
+                parts.run(["tools/beside-linux", "300"]),
+            ]
+    return results
+
+
+def processor_time() -> str:
+    """Returns the processor time of all parts so far."""
+    used = os.times()
+    user, system = (
+        f"{seconds // 60:.0f}m{seconds % 60:.0f}s" for seconds in (used.children_user, used.children_system)
+    )
+    return f"{user} user, {system} system"
+
+
+def add_arguments(parser: argparse.ArgumentParser) -> None:
+    """Adds the command."""
+    parser.add_argument(
+        "command", metavar="COMMAND", nargs=argparse.REMAINDER, help="run this instead of the gate's parts"
+    )
+
+
+def run(asked: argparse.Namespace) -> int:
+    """Runs the gate, or a command."""
+    processors = len(os.sched_getaffinity(0))
+    os.environ.update({**ALLOCATOR, "RT_JOBS": str(processors)})
+    times = Times()
+    results = [parts.run(asked.command, times)] if asked.command else run_all(times)
+    passed, failed = sum(it.passed for it in results), sum(it.failed for it in results)
+    print(times.table(sum(it.clock for it in results[:2]), processors))
+    print(processor_time())
+    print(f"{passed} passed, {failed} failed")
+    return 1 if failed else 0

@@ -1,0 +1,1 @@
+"""Scripts and programs run by this host and by Linux."""

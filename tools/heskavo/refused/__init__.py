@@ -1,0 +1,1 @@
+"""Mutants, which the prover must refuse."""

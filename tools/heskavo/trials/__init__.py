@@ -1,0 +1,1 @@
+"""Long trials of the built programs, which the gate does not run."""
