@@ -7,13 +7,14 @@ a document that are generated.
 import argparse
 
 from heskavo.command_line import Command, add_subcommands
-from heskavo.documents import definitions, programs, proof_status, stated, trusted
+from heskavo.documents import definitions, examples, programs, proof_status, stated, trusted
 
 CHECKS: dict[str, Command] = {
     "stated": stated,
     "definitions": definitions,
     "proof-status": proof_status,
     "programs": programs,
+    "examples": examples,
 }
 
 
