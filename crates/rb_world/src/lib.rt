@@ -40,7 +40,6 @@ mod turn_done;
 mod worker_turn;
 mod world;
 mod world_fault;
-mod world_record;
 
 pub use actor::Actor;
 pub use interleaving_laws::{
@@ -51,4 +50,3 @@ pub use run::Report;
 pub use turn_done::TurnDone;
 pub use world::World;
 pub use world_fault::{WorldFault, WorldOpenFault};
-pub use world_record::WorldRecord;
