@@ -19,6 +19,19 @@
  * Documentation/bpf/ringbuf.rst the rings.
  *
  * Link with libheskavo.a. tools/install copies it to lib, and this header to include, below one folder.
+ *
+ * An example, which prints the maximal cost of a program for a context of 16 bytes and one ring, or why the program is
+ * refused. The function `is_accepted` of examples/embed/c/agent.c has these lines:
+ *
+ *     struct heskavo_cost cost;
+ *     struct heskavo_ring_cost ring;
+ *     struct heskavo_verdict verdict;
+ *     uint32_t status = heskavo_cost(program, len, 16, &cost, &ring, 1, &verdict);
+ *     if (status == HESKAVO_REFUSED)
+ *         printf("refused layer %" PRIu32 " number %" PRIu32 " unit %" PRIu32 "\n",
+ *                verdict.layer, verdict.number, verdict.unit);
+ *     if (status != HESKAVO_DONE) return 0;
+ *     printf("steps %" PRIu64 " calls %" PRIu64 "\n", cost.steps, cost.calls);
  */
 #ifndef HESKAVO_HOST_H
 #define HESKAVO_HOST_H
