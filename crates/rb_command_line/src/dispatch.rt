@@ -19,7 +19,7 @@ use clap::Error;
 use clap::error::ErrorKind;
 use rb_io::{NotedReader, NotedWriter, write_whole};
 use rb_json::LineForm;
-use rb_loader::{Bounds, ProgramFault, explain, explain_portable, read_all};
+use rb_loader::{Bounds, ProgramFault, explain, read_all};
 use rb_run_commands::{JobsFault, JobsRequest, TapeFile, check, check_portable, run, run_to_file};
 use rb_script::{SimFault, line_reason, sim};
 use rb_service::Host;
@@ -260,22 +260,6 @@ fn checked<T: Wait + Clock + Eprint, R: Read, W: Write>(
     }
 }
 
-// Explains a program, and prints where Linux refuses it if that is requested.
-fn explained<R: Read, W: Write>(
-    alloc: Global,
-    input: &mut R,
-    out: &mut W,
-    bounds: Bounds,
-    form: LineForm,
-    portable: bool,
-) -> Result<(), ProgramFault> {
-    if portable {
-        explain_portable(alloc, input, out, bounds, form)
-    } else {
-        explain(alloc, input, out, bounds, form)
-    }
-}
-
 // Executes a command. Returns where the tape of `feed` ends, or why the command was refused. Leaves the text for
 // standard error, besides the output, in `told`.
 fn answer<T, F: Write + Send + Drop, R: Read, W: Write>(
@@ -310,7 +294,7 @@ where
             bounds,
             form,
             portable,
-        } => of_program(explained(alloc, input, out, bounds, form, portable)),
+        } => of_program(explain(alloc, input, out, bounds, form, portable)),
         Subcommand::Cost {
             bounds,
             form,
