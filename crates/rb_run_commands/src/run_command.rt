@@ -65,15 +65,19 @@ where
     ensures nothing_written { IfErr result (λ fault. fault ≢ JobsFault.Program ProgramFault.Device → Keeps (W.contents out.old) (W.contents out.new) × Keeps (E.contents err.old) (E.contents err.new)) }
 {
     let planned = PlannedRun::read(alloc, input, request)?;
-    let Some(path) = file.path else {
-        let sink = NullSink {
-            position: request.start,
-        };
-        planned.run(rt, alloc, out, err, sink, gate)?;
-        return Ok(());
-    };
-    run_to_file(rt, alloc, &planned, out, err, path, &mut file.fault, gate)?;
-    Ok(())
+    match file.path {
+        None => {
+            let sink = NullSink {
+                position: request.start,
+            };
+            planned.run(rt, alloc, out, err, sink, gate)?;
+            Ok(())
+        }
+        Some(path) => {
+            run_to_file(rt, alloc, &planned, out, err, path, &mut file.fault, gate)?;
+            Ok(())
+        }
+    }
 }
 
 // Runs the jobs with a tape in the file of this name, and stores what failed at the file.
