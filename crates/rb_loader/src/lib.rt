@@ -11,11 +11,11 @@ mod cost_command;
 mod digits;
 mod explain_command;
 mod input_text;
-mod portable_command;
 mod program;
+mod requested_findings;
 
 pub use cost_command::cost;
 pub use explain_command::explain;
 pub use input_text::read_text;
-pub use portable_command::explain_portable;
 pub use program::{Bounds, ProgramFault, accept, read_all, read_program};
+pub use requested_findings::requested_findings;

@@ -24,7 +24,7 @@ mod runs;
 mod shapes;
 mod states;
 mod steps;
-mod told_states;
+mod state_changes;
 mod verified;
 mod witness;
 

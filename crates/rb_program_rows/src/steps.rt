@@ -2,7 +2,7 @@
 
 use crate::decoded::insn_of;
 use crate::states::{are_earlier, state_of};
-use crate::told_states::tell_changes;
+use crate::state_changes::tell_changes;
 use rb_insn::Insn;
 use rb_verifier::{AbsState, Effect, Limits, StepFault, below, join, step, step_in_place};
 use std::alloc::{AllocError, Global};
