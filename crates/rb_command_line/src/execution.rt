@@ -51,34 +51,45 @@ where
             form: _,
         } => {
             let ends = feed_metered(alloc, input, out, progress, size, start, retries)?;
-            return Ok(Some(ends));
+            Ok(Some(ends))
         }
         Subcommand::Tape { size, start, form } => {
             tape_metered(alloc, input, out, progress, size, start, form)?;
+            Ok(None)
         }
         Subcommand::Check {
             bounds,
             form,
             portable,
-        } => check(rt, alloc, input, out, bounds, form, portable, progress)?,
+        } => {
+            check(rt, alloc, input, out, bounds, form, portable, progress)?;
+            Ok(None)
+        }
         Subcommand::Explain {
             bounds,
             form,
             portable,
-        } => explain(alloc, input, out, bounds, form, portable)?,
+        } => {
+            explain(alloc, input, out, bounds, form, portable)?;
+            Ok(None)
+        }
         Subcommand::Cost {
             bounds,
             form,
             sizes,
-        } => cost_with_sizes(alloc, input, out, bounds, form, sizes)?,
+        } => {
+            cost_with_sizes(alloc, input, out, bounds, form, sizes)?;
+            Ok(None)
+        }
         Subcommand::Run { jobs, tape } => {
             run_reported(rt, alloc, input, out, told, jobs, tape, progress, seen)?;
+            Ok(None)
         }
         Subcommand::Sim { draw, form } => {
             sim_reported(alloc, input, out, progress, draw, form, asked.why, seen)?;
+            Ok(None)
         }
     }
-    Ok(None)
 }
 
 // Writes the tape of the payloads, and reports the progress. Returns where the tape ends.

@@ -78,13 +78,7 @@ impl PlannedRun {
     /// before each helper call.
     ///
     /// If memory runs out, nothing is printed or reported. Returns `Device` if the output was not written whole.
-    pub fn run<
-        T: Threads + Wait + Sync,
-        W: Write,
-        E: Write,
-        S: Sink + Send + Drop,
-        G: Gate + Sync,
-    >(
+    pub fn run<T: Threads + Wait + Sync, W: Write, E: Write, S: Sink + Send + Drop, G: Gate + Sync>(
         &self,
         rt: &T,
         alloc: Global,

@@ -48,14 +48,7 @@ pub struct TapeFile<'a> {
 /// runs. A write that fails or writes nothing ends the tape, but not the run. Returns `Device` if the file cannot be
 /// opened, or, after the output was printed, if the tape was not written whole; `file` then contains what failed there.
 /// The gate is also called each time the tape was flushed.
-pub fn run<
-    T,
-    R: Read,
-    W: Write,
-    E: Write,
-    F: Write + Send + Drop,
-    G: Gate + TapeWatch + Sync,
->(
+pub fn run<T, R: Read, W: Write, E: Write, F: Write + Send + Drop, G: Gate + TapeWatch + Sync>(
     rt: &T,
     alloc: Global,
     input: &mut R,
