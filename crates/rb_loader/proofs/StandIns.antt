@@ -1,9 +1,9 @@
 -- A result that is right for a text is right for the input that it stands for.
-use Rattle.std.proofs.Common.{◌≡◌, ◌⊎◌, ℕ, ◌*◌, ◌%◌, ◌<◌, Bool, true, false, List, [], length, Option, Some, None, Result, Ok, Err, refl, sym, ap, subst, ◌∙◌, arith, inl, inr}
+use Rattle.std.proofs.Common.{◌≡◌, ℕ, Bool, true, false, List, length, Option, Some, None, Result, Ok, Err, sym, ap, subst, ◌∙◌, arith, inl, inr}
 use Rattle.std.specs.Prelude.{IfErr, IfOk, IfSome}
 use Rattle.rb_insn.specs.declared.insn.Insn.{Insn}
 use Rattle.rb_insn.specs.Spelling.{SpellsAll}
-use Rattle.rb_program.specs.FirstDecodeFault.{HasBadLength, HasTooManyUnits, IsFirstFaultAt}
+use Rattle.rb_program.specs.FirstDecodeFault.{HasBadLength, IsFirstFaultAt}
 use Rattle.rb_program.specs.Program.{IsProgram}
 use Rattle.rb_program.specs.Text.{IsHexOf, without_white_space}
 use Rattle.rb_program.specs.declared.fault.DecodeKind.{DecodeKind}

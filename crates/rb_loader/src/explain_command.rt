@@ -7,8 +7,8 @@ ghost use Rattle.rb_loader.specs.Explained.{ExplainsRefusal, PrintsExplanation, 
 ghost use Rattle.rb_loader.specs.inner.ExplainedText.{ExplainsText};
 
 use crate::input_text::read_text;
+use crate::portable_findings::requested_findings;
 use crate::program::{Bounds, ProgramFault, shape_fault};
-use crate::requested_findings::requested_findings;
 use rb_explain::{Explanation, Reason};
 use rb_io::write_whole;
 use rb_json::LineForm;
