@@ -28,6 +28,11 @@ use Rattle.rb_workers.specs.declared.null_sink.NullSink.{NullSink}
 
 -- ---- the run
 
+-- a run that can begin: its program, and what is requested of it
+pub record RunPlan : Type 0 where
+  pub program : Subject
+  pub request : JobsRequest
+
 -- the position of a sink that discards its records
 abbrev pub null_position : NullSink → ℕ
 null_position sink = sink.position

@@ -1,13 +1,12 @@
 //! A run of jobs that can begin.
 
 ghost use Rattle.std.specs.Prelude.{◌≡◌, vec_len, IfOk, ◌∷◌, []};
-ghost use Rattle.rb_history.specs.RingModel.{IsRingSize, IsStartPosition, IsWorkerCount};
-ghost use Rattle.rb_run_commands.specs.inner.JobContexts.{contexts_of_workers};
 
 use crate::jobs_fault::JobsFault;
 use crate::jobs_request::{JOB_BOUNDS, JobsRequest, check_ring};
 use crate::report::lines_of_report;
 use crate::report_lines::text_of_unlogged;
+use crate::tape_sink::TapeSink;
 use crate::worker_jobs::{JobContext, contexts_of, jobs_of};
 use rb_io::write_whole;
 use rb_loader::{ProgramFault, read_program};
@@ -18,35 +17,44 @@ use rb_workers::{
 };
 use std::alloc::{AllocError, Global};
 use std::io::{Read, Write};
+use std::marker::Model;
 use std::sync::Wait;
 use std::thread::Threads;
 
 /// A verified program with its jobs and the numbers of a ring that can be opened for them.
 #[derive(Drop)]
 pub struct PlannedRun {
-    /// The program.
-    pub program: Verified,
-    /// The jobs to run, and the ring to run them over.
-    pub request: JobsRequest,
+    program: Verified,
+    // The jobs to run, and the ring to run them over.
+    request: JobsRequest,
     // The number of workers.
     workers: u32,
     // The contexts of the jobs, worker by worker.
     contexts: Vec<JobContext>,
-    ghost one_ring: { program.rings ≡ 1 },
-    ghost size: { IsRingSize request.size },
-    ghost start: { IsStartPosition request.start },
-    ghost worker_count: { IsWorkerCount request.workers },
-    ghost workers_are: { workers ≡ request.workers },
-    ghost contexts_are: { contexts.items ≡ contexts_of_workers workers request.jobs },
+}
+
+impl Model for PlannedRun {
+    ghost use Rattle.std.specs.Prelude.{◌≡◌};
+    ghost use Rattle.rb_history.specs.RingModel.{IsRingSize, IsStartPosition, IsWorkerCount};
+    ghost use Rattle.rb_run_commands.specs.RunCommand.{RunPlan};
+    ghost use Rattle.rb_run_commands.specs.inner.JobContexts.{contexts_of_workers};
+
+    ghost Value = { RunPlan };
+
+    ghost view = { λ p. record { program = p.program; request = p.request } };
+
+    ghost invariant = { λ p. (p.program.rings ≡ 1) × IsRingSize p.request.size × IsStartPosition p.request.start × IsWorkerCount p.request.workers × (p.workers ≡ p.request.workers) × (p.contexts.items ≡ contexts_of_workers p.workers p.request.jobs) };
 }
 
 impl PlannedRun {
-    ghost use Rattle.std.specs.Prelude.{◌≡◌, ◌≢◌, IfErr, IfOk, IfSome, vec_len};
+    ghost use Rattle.std.specs.Prelude.{◌≡◌, ◌≢◌, IfErr, IfOk, IfSome, OnOk, vec_len};
     ghost use Rattle.std.specs.Io.KnownBytes.{Appends, Keeps};
     ghost use Rattle.rb_loader.specs.Acceptance.{IsAccepted};
     ghost use Rattle.rb_loader.specs.MachineFaults.{IsMachineFault};
     ghost use Rattle.rb_run_commands.specs.ReportLines.{report_lines, unlogged_text};
+    ghost use Rattle.rb_history.specs.RingModel.{IsRingSize, IsStartPosition, IsWorkerCount};
     ghost use Rattle.rb_run_commands.specs.RunCommand.{IsRightJobsFault, RunsWorkers};
+    ghost use Rattle.rb_run_commands.specs.TapedRun.{first_tape};
 
     /// Verifies the program whose text is the input, for one ring and contexts of 16 bytes, and returns its run. A job's
     /// context is the worker's number followed by the job's number, each in eight bytes, little-endian.
@@ -59,6 +67,7 @@ impl PlannedRun {
     ) -> Result<PlannedRun, JobsFault>
         ensures accepted { IfOk result (λ planned. IfSome (R.remaining input.old) (λ text. IsAccepted text 16 1 planned.program)) }
         ensures request { IfOk result (λ planned. planned.request ≡ request) }
+        ensures bounds { OnOk result (IsRingSize request.size × IsStartPosition request.start × IsWorkerCount request.workers) }
         ensures refused { IfErr result (λ fault. IfSome (R.remaining input.old) (λ text. IsRightJobsFault text request fault)) }
     {
         let program = read_program(alloc, input, JOB_BOUNDS)?;
@@ -70,6 +79,13 @@ impl PlannedRun {
             workers,
             contexts,
         })
+    }
+
+    /// Returns a sink that writes the ring's records as a tape. Nothing is written yet.
+    pub fn tape_sink<'w, F: Write, G>(&self, writer: F, watch: &'w G) -> TapeSink<'w, F, G>
+        ensures value { result ≡ first_tape writer self.now.request }
+    {
+        TapeSink::new(writer, self.request.size, self.request.start, watch)
     }
 
     /// Runs the jobs, each worker on its own thread, over a newly opened ring whose records go to the sink as they are

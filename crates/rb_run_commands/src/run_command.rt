@@ -10,7 +10,6 @@ ghost use Rattle.rb_run_commands.specs.TapedRun.{PrintsRun, TapesWhole};
 use crate::jobs_fault::JobsFault;
 use crate::jobs_request::JobsRequest;
 use crate::planned_run::PlannedRun;
-use crate::tape_sink::TapeSink;
 use crate::tape_watch::TapeWatch;
 use crate::written_tape::finish_tape;
 use rb_io::{Buffered, NotedWriter};
@@ -66,15 +65,19 @@ where
     ensures nothing_written { IfErr result (λ fault. fault ≢ JobsFault.Program ProgramFault.Device → Keeps (W.contents out.old) (W.contents out.new) × Keeps (E.contents err.old) (E.contents err.new)) }
 {
     let planned = PlannedRun::read(alloc, input, request)?;
-    let Some(path) = file.path else {
-        let sink = NullSink {
-            position: request.start,
-        };
-        planned.run(rt, alloc, out, err, sink, gate)?;
-        return Ok(());
-    };
-    run_to_file(rt, alloc, &planned, out, err, path, &mut file.fault, gate)?;
-    Ok(())
+    match file.path {
+        None => {
+            let sink = NullSink {
+                position: request.start,
+            };
+            planned.run(rt, alloc, out, err, sink, gate)?;
+            Ok(())
+        }
+        Some(path) => {
+            run_to_file(rt, alloc, &planned, out, err, path, &mut file.fault, gate)?;
+            Ok(())
+        }
+    }
 }
 
 // Runs the jobs with a tape in the file of this name, and stores what failed at the file.
@@ -102,7 +105,7 @@ where
         }
     };
     let writer = Buffered::new(alloc, NotedWriter::new(file))?;
-    let sink = TapeSink::new(writer, planned.request.size, planned.request.start, gate);
+    let sink = planned.tape_sink(writer, gate);
     let report = planned.run(rt, alloc, out, err, sink, gate)?;
     let tape = finish_tape(report);
     if !tape.is_whole {

@@ -25,7 +25,7 @@ pub struct WrittenTape<F> {
 /// The sink flushed the writer whenever the consumer had caught up, until that failed once.
 pub fn finish_tape<F: Outgoing + Drop, G>(report: JobsReport<TapeSink<'_, F, G>>) -> WrittenTape<F>
     requires one_ring { vec_len report.rings ≡ 1 }
-    ensures taped { (writer : F) (subject : Subject) (request : JobsRequest) → RunsWorkers tape_position (tape_takes F.contents F.writes_out) (first_tape writer request) subject request report → All (TapesRing F.contents F.writes_out request.size result.is_whole writer result.writer) report.rings.items }
+    ensures taped { (writer : F) (subject : Subject) (request : JobsRequest) → RunsWorkers tape_position (tape_takes F.contents F.writes_out) (first_tape writer request) subject request report.entry → All (TapesRing F.contents F.writes_out request.size result.is_whole writer result.writer) report.entry.rings.items }
     ensures handed_on { result.is_whole ≡ true → F.waiting result.writer ≡ [] }
 {
     let JobsReport {

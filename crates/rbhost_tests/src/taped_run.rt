@@ -5,7 +5,7 @@ use crate::expected::{same, same_of};
 use crate::fakes::{FakeWriter, Trouble};
 use rb_command_line::Host;
 use rb_json::LineForm;
-use rb_run_commands::{JobsRequest, PlannedRun, TapeSink, WrittenTape, finish_tape};
+use rb_run_commands::{JobsRequest, PlannedRun, WrittenTape, finish_tape};
 use rb_workers::OpenGate;
 use std::fs::File;
 use std::io::{Eprint, ErrorKind};
@@ -43,7 +43,7 @@ fn run_over<
     };
     let mut out = Vec::new(rt.alloc());
     let mut told = Vec::new(rt.alloc());
-    let sink = TapeSink::new(tape, planned.request.size, planned.request.start, &OpenGate);
+    let sink = planned.tape_sink(tape, &OpenGate);
     let ran = planned.run(rt, rt.alloc(), &mut out, &mut told, sink, &OpenGate);
     let Ok(report) = ran else {
         rt.panic("no report");
