@@ -103,8 +103,8 @@ pub record GrantsParts (p q : RingParts) (w n pos k : ℕ) : Type 0 where
   pub taken_same : taken_before (closing_of q.chapter) ≡ taken_before (closing_of p.chapter)
   pub shown : (ring_in q).shown ≡ (ring_in p).shown ++ (record { pos = pos; len = n; worker = w; serial = k; status = Busy }) ∷ []
 
-pub grants : (p : RingParts) → AreParts p → (w n : ℕ) → w < p.chapter.opening.setup.workers → (d : Chapter) (pos k : ℕ) → GrantsRecord p.chapter d w n pos k → GrantsParts p (after_request p d p.refused) w n pos k
-grants p i w n low d pos k is =
+pub grants : (p : RingParts) → AreParts p → (w n : ℕ) → w < p.chapter.opening.setup.workers → (d : Chapter) (m : ℕ) → m ≡ p.refused → (pos k : ℕ) → GrantsRecord p.chapter d w n pos k → GrantsParts p (after_request p d m) w n pos k
+grants p i w n low d m uncounted pos k is =
     let c = p.chapter in
     let o = closing_of c in
     let stored = stored_of c p.sheets in
@@ -121,7 +121,7 @@ grants p i w n low d pos k is =
           earlier = i.earlier;
           counts = counting_grant i.counts;
           ring = transport-ring _ _ _ _ _ _ i.earlier (sym is.logged) (sym left) refl kept;
-          refused_is = i.refused_is;
+          refused_is = uncounted ∙ i.refused_is;
           discarded_is = i.discarded_is;
           power = i.power;
           slots = subst (λ (x : Chapter). (m : ℕ) → m ≤ x.opening.setup.size / 8 → m ≤ x.room → m ≤ length p.sheets) (sym is.logged) i.slots;
@@ -301,30 +301,37 @@ pub record OutputsParts (p q : RingParts) (w : ℕ) (bytes : List ℕ) : Type 0 
   pub keeps : KeepsParts p q
   pub outputs : OutputsByChapter (ring_in p) (ring_in q) w bytes
 
-module _ (p : RingParts) (i : AreParts p) (w : ℕ) (bytes : List ℕ) (low : w < p.chapter.opening.setup.workers) (d : Chapter) (pos k : ℕ) (is : GrantsRecord p.chapter d w (length bytes) pos k) (index : ℕ) (last : index ≡ length (ring_in p).shown) where
-  granted : GrantsParts p (after_request p d p.refused) w (length bytes) pos k
-  granted = grants p i w (length bytes) low d pos k is
+module _ (p : RingParts) (i : AreParts p) (w : ℕ) (bytes : List ℕ) (low : w < p.chapter.opening.setup.workers) (d : Chapter) (m : ℕ) (uncounted : m ≡ p.refused) (pos k : ℕ) (is : GrantsRecord p.chapter d w (length bytes) pos k) where
+  granted : GrantsParts p (after_request p d m) w (length bytes) pos k
+  granted = grants p i w (length bytes) low d m uncounted pos k is
 
-  at : IsBusyAt (ring_in (after_request p d p.refused)).shown index pos (length bytes)
-  at =
-      let x : Shown = record { pos = pos; len = length bytes; worker = w; serial = k; status = Busy } in
-      subst (λ ss. IsBusyAt ss index pos (length bytes)) (sym granted.shown) (subst (λ n. IsBusyAt ((ring_in p).shown ++ x ∷ []) n pos (length bytes)) (sym last) (busy-last (ring_in p).shown x refl))
+  pub granted-many : length (closing_of d).records ≡ length (ring_in p).shown + 1
+  granted-many = ap length (sym granted.keeps.parts.ring.stands.shown) ∙ ap length granted.shown ∙ length-append (ring_in p).shown _
 
-  pub granted-is-busy : IsBusyNow d index
-  granted-is-busy = busy-record-now (after_request p d p.refused) granted.keeps.parts index pos bytes at
+  module _ (index : ℕ) (last : index + 1 ≡ length (closing_of d).records) where
+    place : index ≡ length (ring_in p).shown
+    place = omega (arith, last, granted-many)
 
-  -- the ordinal of that record
-  pub granted-ordinal : taken_before (closing_of d) + index < 2 ^ 62
-  granted-ordinal =
-      let t = together i.earlier p.chapter (stored_of p.chapter p.sheets) i.counts i.ring in
-      omega (arith, granted.taken_same, last, length-map (stored_of p.chapter p.sheets) shown_record, t.made_is, t.low)
+    at : IsBusyAt (ring_in (after_request p d m)).shown index pos (length bytes)
+    at =
+        let x : Shown = record { pos = pos; len = length bytes; worker = w; serial = k; status = Busy } in
+        subst (λ ss. IsBusyAt ss index pos (length bytes)) (sym granted.shown) (subst (λ n. IsBusyAt ((ring_in p).shown ++ x ∷ []) n pos (length bytes)) (sym place) (busy-last (ring_in p).shown x refl))
 
-  pub outputs : (slot : ℕ) → slot ≡ (taken_before (closing_of d) + index) % length p.sheets → slot < length p.sheets → (e : Chapter) → e ≡ with_entry d (entry_of_end Submit (record_now d index).pos)
-      → (sheets : List (List ℕ)) → sheets ≡ slots_with_end Submit slot bytes p.sheets → OutputsParts p (after_end p e sheets p.discarded) w bytes
-  outputs slot slot_is within e logged sheets stored_bytes =
-      let mid = after_request p d p.refused in
-      let ended = ends mid granted.keeps.parts index pos bytes at Submit slot slot_is within e logged sheets stored_bytes p.discarded (omega arith) in
-      record {
-        keeps = record { parts = ended.keeps.parts; numbers = ordinals-on (closing_of p.chapter) (closing_of d) (closing_of e) granted.keeps.numbers ended.keeps.numbers };
-        outputs = outputs-by (ring_in p) (ring_in mid) (ring_in (after_end p e sheets p.discarded)) w pos k bytes granted.granted ended.logged ended.contents;
-      }
+    pub granted-is-busy : IsBusyNow d index
+    granted-is-busy = busy-record-now (after_request p d m) granted.keeps.parts index pos bytes at
+
+    -- the ordinal of that record
+    pub granted-ordinal : taken_before (closing_of d) + index < 2 ^ 62
+    granted-ordinal =
+        let t = together i.earlier p.chapter (stored_of p.chapter p.sheets) i.counts i.ring in
+        omega (arith, granted.taken_same, place, length-map (stored_of p.chapter p.sheets) shown_record, t.made_is, t.low)
+
+    pub outputs : (slot : ℕ) → slot ≡ (taken_before (closing_of d) + index) % length p.sheets → slot < length p.sheets → (e : Chapter) → e ≡ with_entry d (entry_of_end Submit (record_now d index).pos)
+        → (sheets : List (List ℕ)) → sheets ≡ slots_with_end Submit slot bytes p.sheets → OutputsParts p (after_end (after_request p d m) e sheets p.discarded) w bytes
+    outputs slot slot_is within e logged sheets stored_bytes =
+        let mid = after_request p d m in
+        let ended = ends mid granted.keeps.parts index pos bytes at Submit slot slot_is within e logged sheets stored_bytes p.discarded (omega arith) in
+        record {
+          keeps = record { parts = ended.keeps.parts; numbers = ordinals-on (closing_of p.chapter) (closing_of d) (closing_of e) granted.keeps.numbers ended.keeps.numbers };
+          outputs = outputs-by (ring_in p) (ring_in mid) (ring_in (after_end (after_request p d m) e sheets p.discarded)) w pos k bytes granted.granted ended.logged ended.contents;
+        }

@@ -1,6 +1,6 @@
 //! A chapter as a value.
 
-ghost use Rattle.std.specs.Prelude.{◌≡◌, ◌+◌, ◌-◌, ◌<◌, ◌≤◌, ◌^◌, ◌↔◌, ◌++◌, ◌∷◌, [], IfOk, IfErr, IsTrue, List, vec_len, vec_capacity};
+ghost use Rattle.std.specs.Prelude.{◌≡◌, ◌+◌, ◌-◌, ◌<◌, ◌≤◌, ◌^◌, ◌↔◌, ◌++◌, ◌∷◌, [], IfOk, IfErr, OnOk, IsTrue, List, vec_len, vec_capacity};
 ghost use Rattle.rb_history.specs.Span.{span};
 ghost use Rattle.rb_history.specs.declared.entries.Entry.{Entry};
 ghost use Rattle.rb_history.specs.declared.entries.Entry.TheVariants.{Take};
@@ -10,8 +10,9 @@ ghost use Rattle.rb_chapter_ring.specs.ChapterRoom.{used, owed, MayGrant, MayRef
 ghost use Rattle.rb_chapter_ring.specs.CountedFrom.{HasRoomFrom, consumer_from};
 ghost use Rattle.rb_chapter_ring.specs.WholeHistory.{IsKept};
 ghost use Rattle.rb_chapter_ring.specs.RecordEnds.{entry_of_end};
-ghost use Rattle.rb_chapter_ring.specs.inner.ChapterSteps.{GrantsRecord, RefusesRecord};
+ghost use Rattle.rb_chapter_ring.specs.inner.ChapterSteps.{GrantsRecord, RefusesRecord, refused_after};
 
+use crate::counting::count_refusal;
 use crate::entries::Entries;
 use crate::entry_words::{end_word, grant_word, refusal_word, take_word};
 use crate::faults::ReserveFault;
@@ -137,14 +138,22 @@ impl Chapter {
     #[inline(always)]
     /// Grants the worker the next record, of `len` bytes, at the producer position, if the ring has room for it and this
     /// chapter for all entries that it will log. Returns the record's position and serial. Otherwise logs that the ring
-    /// has no room, if the chapter has room for that. Takes constant time and does not allocate.
-    pub(crate) fn grant(&mut self, worker: u32, len: u32) -> Result<(u64, u64), ReserveFault>
+    /// has no room, and counts it in `refused`, if the chapter has room for that. Takes constant time and does not
+    /// allocate.
+    pub(crate) fn grant(
+        &mut self,
+        worker: u32,
+        len: u32,
+        refused: &mut u64,
+    ) -> Result<(u64, u64), ReserveFault>
         requires worker { worker < self.old.opening.setup.workers }
         ensures granted { IfOk result (λ g. GrantsRecord self.old self.new worker len g.0 g.1) }
+        ensures uncounted { OnOk result (refused.new ≡ refused.old) }
         ensures refused { IfErr result (λ e. RefusesRecord self.old self.new worker len e) }
+        ensures counted { IfErr result (λ e. refused.new ≡ refused_after e refused.old) }
     {
         if !self.has_room(len) {
-            return Err(self.refuse(worker, len));
+            return Err(self.refuse(worker, len, refused));
         }
         if !self.may_grant() {
             return Err(ReserveFault::ChapterFull);
@@ -159,17 +168,19 @@ impl Chapter {
 
     #[cold]
     #[inline(never)]
-    // Logs that the ring has no room, if the chapter has room for that entry.
-    fn refuse(&mut self, worker: u32, len: u32) -> ReserveFault
+    // Logs that the ring has no room, and counts it, if the chapter has room for that entry.
+    fn refuse(&mut self, worker: u32, len: u32, refused: &mut u64) -> ReserveFault
         requires worker { worker < self.old.opening.setup.workers }
         requires no_room { ¬ HasRoomFrom self.old.opening self.old.entries len }
         ensures refused { RefusesRecord self.old self.new worker len result }
+        ensures counted { refused.new ≡ refused_after result refused.old }
     {
         if !self.may_refuse(worker) {
             return ReserveFault::ChapterFull;
         }
         self.closing.add_refusal(worker);
         log(&mut self.words, refusal_word(worker, len));
+        count_refusal(refused);
         ReserveFault::Full
     }
 

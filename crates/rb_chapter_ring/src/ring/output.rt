@@ -7,7 +7,6 @@ ghost use Rattle.rb_chapter_ring.specs.ChapterCalls.{IsSameChapter, OutputsByCha
 ghost use Rattle.rb_chapter_ring.specs.declared.faults.ReserveFault.TheVariants.{Flags};
 ghost use Rattle.rb_chapter_ring.specs.RingFaults.{RefusesInChapter};
 
-use crate::counting::count_fault;
 use crate::finding::{keep_bytes, slot_in};
 use crate::{RecordEnd, ReserveFault, RingState};
 use rb_history::{KNOWN_FLAGS, Notice, notice_for};
@@ -42,14 +41,12 @@ impl RingState {
         }
         let numbers = self.chapter.closing().numbers();
         let notice = notice_for(numbers.consumer, numbers.producer, flags);
-        let index = self.many();
-        match self.chapter.grant(worker, sheet.len()) {
-            Err(fault) => {
-                count_fault(&mut self.refused, fault);
-                Err((fault, sheet))
-            }
+        match self.chapter.grant(worker, sheet.len(), &mut self.refused) {
+            Err(fault) => Err((fault, sheet)),
             Ok(_) => {
-                let numbers = self.chapter.closing().numbers();
+                let closing = self.chapter.closing();
+                let index = closing.records().len() - 1;
+                let numbers = closing.numbers();
                 let ordinal = numbers.consumed + numbers.skipped + index as u64;
                 let slot = slot_in(self.sheets.len(), ordinal);
                 keep_bytes(&mut self.sheets, slot, sheet, RecordEnd::Submit);

@@ -7,7 +7,6 @@ ghost use Rattle.rb_chapter_ring.specs.RingFaults.{RefusesInChapter};
 ghost use Rattle.rb_chapter_ring.specs.Hands.{IsFree, hands_of};
 ghost use Rattle.rb_chapter_ring.specs.HandRing.{HasInHand, GrantsToHand};
 
-use crate::counting::count_fault;
 use crate::hand_table::{set_hand, set_ordinal};
 use crate::{OutRecord, Reservation, ReserveFault, RingState};
 use rb_lend::Sheet;
@@ -46,11 +45,8 @@ impl RingState {
     {
         let mut sheet = sheet;
         let ordinal = self.next_ordinal();
-        match self.chapter.grant(worker, n) {
-            Err(fault) => {
-                count_fault(&mut self.refused, fault);
-                Err((fault, sheet))
-            }
+        match self.chapter.grant(worker, n, &mut self.refused) {
+            Err(fault) => Err((fault, sheet)),
             Ok((pos, serial)) => {
                 let out = OutRecord {
                     pos,

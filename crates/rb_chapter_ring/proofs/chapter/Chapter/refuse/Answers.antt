@@ -61,4 +61,4 @@ returns c =
     let room = subst (λ x. MayRefuse x c.args.worker) (sym c.self.view_is) (c.may_refuse.ensures.exact.0 c.if-not-may_refuse.false) in
     let new : Chapter = record { number = c.self.inside.number; room = c.self.inside.room; opening = c.self.inside.opening.opening; entries = entries_in c.self.inside.opening.opening c.log.new.words.items } in
     let logged : new ≡ with_entry old (Full c.args.worker c.args.len) = ap (λ es. record old { entries = es }) (logs-in c.self.inside.opening.opening c.self.inside.words.items c.log.new.words.items c.refusal_word.result (Full c.args.worker c.args.len) c.log.ensures.logged c.refusal_word.ensures.word) in
-    record { refused = subst (λ x. LogsRefusal x new c.args.worker c.args.len) c.self.view_is (record { no_room = none; chapter_room = room; logged = logged }) }
+    record { counted = c.count_refusal.ensures.counted; refused = subst (λ x. LogsRefusal x new c.args.worker c.args.len) c.self.view_is (record { no_room = none; chapter_room = room; logged = logged }) }

@@ -9,18 +9,18 @@ use Rattle.rb_chapter_ring.specs.inner.RingBody.{parts_of, ring_in}
 use Rattle.rb_chapter_ring.proofs.RingSteps.{RefusesParts, GrantsParts, after_request, refuses, grants}
 use Rattle.rb_chapter_ring.proofs.StateSteps.{refused-holds, granted-holds}
 use Rattle.rb_chapter_ring.proofs.ring.RingState.reserve.Goals as goal
-use Rattle.rb_chapter_ring.proofs.ring.RingState.reserve.Goals.{After-count_fault, After-clear}
+use Rattle.rb_chapter_ring.proofs.ring.RingState.reserve.Goals.{In-Err, After-clear}
 
-refused : (c : After-count_fault) → RefusesParts (parts_of c.self.inside) (after_request (parts_of c.self.inside) c.grant.new.self c.count_fault.new.refused) c.args.worker c.args.n c.in-Err.fault
+refused : (c : In-Err) → RefusesParts (parts_of c.self.inside) (after_request (parts_of c.self.inside) c.grant.new.self c.grant.new.refused) c.args.worker c.args.n c.in-Err.fault
 refused c =
     let low = subst (λ (s : TaggedRing). c.args.worker < s.state.ring.chapter.opening.setup.workers) (sym c.self.view_is) c.requires.worker in
-    refuses (parts_of c.self.inside) c.self.invariant.parts c.args.worker c.args.n low c.grant.new.self c.count_fault.new.refused c.in-Err.fault c.in-Err.ensures.refused c.count_fault.ensures.counted
+    refuses (parts_of c.self.inside) c.self.invariant.parts c.args.worker c.args.n low c.grant.new.self c.grant.new.refused c.in-Err.fault c.in-Err.ensures.refused c.in-Err.ensures.counted
 
 pub invariant_of-self : goal.invariant_of-self
 invariant_of-self c =
     let a = c.self.inside in
     let p = parts_of a in
-    let q = after_request p c.grant.new.self c.count_fault.new.refused in
+    let q = after_request p c.grant.new.self c.grant.new.refused in
     let i = c.self.invariant in
     let done = refused c in
     let low = subst (λ (s : TaggedRing). c.args.worker < s.state.ring.chapter.opening.setup.workers) (sym c.self.view_is) c.requires.worker in
@@ -31,15 +31,15 @@ invariant_of-self c =
 
 pub returns-in-Err-clause-refused : goal.returns-in-Err-clause-refused
 returns-in-Err-clause-refused c =
-    let q = after_request (parts_of c.self.inside) c.grant.new.self c.count_fault.new.refused in
+    let q = after_request (parts_of c.self.inside) c.grant.new.self c.grant.new.refused in
     subst (λ (s : TaggedRing). RefusesInChapter s.state.ring (ring_in q) c.args.worker c.args.n c.in-Err.fault) c.self.view_is (refused c).refused
 
-granted : (c : After-clear) → GrantsParts (parts_of c.self.inside) (after_request (parts_of c.self.inside) c.grant.new.self c.self.inside.refused) c.args.worker c.args.n c.in-Ok.pos c.in-Ok.serial
+granted : (c : After-clear) → GrantsParts (parts_of c.self.inside) (after_request (parts_of c.self.inside) c.grant.new.self c.grant.new.refused) c.args.worker c.args.n c.in-Ok.pos c.in-Ok.serial
 granted c =
     let low = subst (λ (s : TaggedRing). c.args.worker < s.state.ring.chapter.opening.setup.workers) (sym c.self.view_is) c.requires.worker in
-    grants (parts_of c.self.inside) c.self.invariant.parts c.args.worker c.args.n low c.grant.new.self c.in-Ok.pos c.in-Ok.serial c.in-Ok.ensures.granted
+    grants (parts_of c.self.inside) c.self.invariant.parts c.args.worker c.args.n low c.grant.new.self c.grant.new.refused c.in-Ok.ensures.uncounted c.in-Ok.pos c.in-Ok.serial c.in-Ok.ensures.granted
 
-marked : (c : After-clear) → GrantsToHand (hand_ring (ring_in (parts_of c.self.inside)) c.self.inside.hands.items) (hand_ring (ring_in (after_request (parts_of c.self.inside) c.grant.new.self c.self.inside.refused)) c.set_hand.new.book.items) c.args.worker c.args.hand c.args.n c.in-Ok.pos c.in-Ok.serial
+marked : (c : After-clear) → GrantsToHand (hand_ring (ring_in (parts_of c.self.inside)) c.self.inside.hands.items) (hand_ring (ring_in (after_request (parts_of c.self.inside) c.grant.new.self c.grant.new.refused)) c.set_hand.new.book.items) c.args.worker c.args.hand c.args.n c.in-Ok.pos c.in-Ok.serial
 marked c = record {
   grants = (granted c).granted;
   was_free = subst (λ (s : TaggedRing). IsFree (hands_of s.state.hands c.args.worker) c.args.hand) (sym c.self.view_is) c.requires.hand;
@@ -50,7 +50,7 @@ pub invariant_of-self-in-Ok : goal.invariant_of-self-in-Ok
 invariant_of-self-in-Ok c =
     let a = c.self.inside in
     let p = parts_of a in
-    let q = after_request p c.grant.new.self a.refused in
+    let q = after_request p c.grant.new.self c.grant.new.refused in
     let i = c.self.invariant in
     let done = granted c in
     let low = subst (λ (s : TaggedRing). c.args.worker < s.state.ring.chapter.opening.setup.workers) (sym c.self.view_is) c.requires.worker in
@@ -61,5 +61,5 @@ invariant_of-self-in-Ok c =
 
 pub returns-in-Ok-clause-granted : goal.returns-in-Ok-clause-granted
 returns-in-Ok-clause-granted c =
-    let q = after_request (parts_of c.self.inside) c.grant.new.self c.self.inside.refused in
+    let q = after_request (parts_of c.self.inside) c.grant.new.self c.grant.new.refused in
     subst (λ (s : TaggedRing). GrantsToHand s.state (hand_ring (ring_in q) c.set_hand.new.book.items) c.args.worker c.args.hand c.args.n c.in-Ok.pos c.in-Ok.serial) c.self.view_is (marked c)
