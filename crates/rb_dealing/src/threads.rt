@@ -36,6 +36,7 @@ fn work_all<R: Threads + Wait + Sync, W: Work + Send>(
     thread::for_each_mut(rt, lanes, threads, &work);
 }
 
+#[tactic(auto, using(std::proofs::lemmas::Grind::common_steps))]
 // Runs what is left in the lanes' queues after the reader has ended.
 fn finish_all<W: Work>(feeds: &mut [LaneFeed], lanes: &mut [Lane<W>])
     requires ready { All (λ lane. W.ready lane.worker) lanes.old }
@@ -47,6 +48,7 @@ fn finish_all<W: Work>(feeds: &mut [LaneFeed], lanes: &mut [Lane<W>])
     }
 }
 
+#[tactic(auto, using(std::proofs::lemmas::Grind::common_steps))]
 // Reads and deals in the calling thread, and runs the lanes in others. If no thread can be started, the lanes run last,
 // because they end only after the reader has ended.
 fn deal_and_work<R: Threads + Wait + Sync, I: Source + Send, W: Work + Send>(
@@ -86,6 +88,7 @@ fn deal_and_work<R: Threads + Wait + Sync, I: Source + Send, W: Work + Send>(
     );
 }
 
+#[tactic(auto, using(std::proofs::lemmas::Grind::common_steps))]
 /// Deals the contexts of the source to the lanes, and runs them, with a thread for the reader and one for each lane.
 /// Returns after the reader has ended and every lane has run what was dealt to it.
 ///
