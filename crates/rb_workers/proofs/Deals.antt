@@ -1,9 +1,15 @@
 -- Laws about distributing seats and taking them back.
-use Rattle.std.proofs.Common.{◌≡◌, ◌≢◌, ℕ, ◌+◌, ◌<◌, ◌≤◌, List, [], ◌∷◌, ◌++◌, length, get_or, set, take, refl, ap, sym, ◌∙◌, subst, ⊎_elim, arith}
+use Rattle.std.proofs.Common.{◌≡◌, ◌≢◌, ℕ, suc, ◌+◌, ◌<◌, ◌≤◌, List, [], ◌∷◌, ◌++◌, length, get_or, set, take, refl, ap, sym, ◌∙◌, subst, drop-cons, ⊎_elim, arith}
 use Rattle.std.proofs.lemmas.List.{get_or-set_same, get_or-set_other, get_or-take, get_or_default, get_or_append_left, get_or_push}
 use Rattle.std.proofs.lemmas.Bool.{cases_eq}
 use Rattle.rb_ledger.specs.Seats.{WorkerSeat}
+use Rattle.std.proofs.lemmas.List.{drop-set}
+use Rattle.std.proofs.lemmas.List.Elements.{All-cons}
+use Rattle.std.specs.Prelude.{All, drop}
+use Rattle.std.specs.List.{AllZip}
+use Rattle.rb_workers.specs.declared.consumer_task.ConsumerTask.{ConsumerTask}
 use Rattle.rb_workers.specs.declared.workers.Worker.{Worker}
+use Rattle.rb_workers.specs.inner.ConsumerTasks.{HasSameParts, returned_rows}
 use Rattle.rb_workers.specs.inner.WorkerRuns.{IsOneMore}
 
 one_more_at : (a a' b b' : Worker) (s s' : WorkerSeat) → a' ≡ a → b' ≡ b → s' ≡ s → IsOneMore a b s → IsOneMore a' b' s'
@@ -33,3 +39,30 @@ returned_more olds workers row at e x seat len inside high low one k d s below =
 
 pub taken_last : (xs ys : List WorkerSeat) (y s : WorkerSeat) (at was : ℕ) → was ≡ at + 1 → length ys ≡ at → take was xs ≡ ys ++ y ∷ [] → get_or xs at s ≡ y
 taken_last xs ys y s at was ew len e = sym (get_or-take was xs at s (omega arith)) ∙ ap (λ (l : List WorkerSeat). get_or l at s) e ∙ get_or_push ys y s at len
+
+-- ---- seats that are returned to tasks, from the last task on
+
+-- the tasks from `at` on have a seat for each worker, and the others are unchanged
+pub record AreReturnedFrom {S : Type 0} (at count : ℕ) (olds tasks : List (ConsumerTask S)) : Type 0 where
+  pub others : (k : ℕ) (d : ConsumerTask S) → k < at → get_or tasks k d ≡ get_or olds k d
+  pub same : AllZip HasSameParts (drop at olds) (drop at tasks)
+  pub long : All (λ t. length t.returned_seats.items ≡ count) (drop at tasks)
+
+pub rows_more : {S : Type 0} (tasks : List (ConsumerTask S)) (at next : ℕ) (x : ConsumerTask S) → next ≡ at + 1 → at < length tasks → returned_rows (drop at (set tasks at x)) ≡ x.returned_seats.items ∷ returned_rows (drop next tasks)
+rows_more {S} tasks at next x is inside =
+    ap (λ (l : List (ConsumerTask S)). returned_rows l) (drop-set tasks at x inside) ∙ ap (λ n. x.returned_seats.items ∷ returned_rows (drop n tasks)) (sym is)
+
+pub returned_from_more : {S : Type 0} (at next count : ℕ) (olds tasks : List (ConsumerTask S)) (e x : ConsumerTask S) → next ≡ at + 1 → at < length tasks → length tasks ≡ length olds → e ≡ get_or tasks at e → HasSameParts e x
+    → length x.returned_seats.items ≡ count → AreReturnedFrom next count olds tasks → AreReturnedFrom at count olds (set tasks at x)
+returned_from_more {S} at next count olds tasks e x is inside len found same full was =
+    let up : suc at ≡ next = omega (arith, is) in
+    let first : drop at olds ≡ get_or olds at e ∷ drop next olds = drop-cons olds at e (omega (arith, inside, len)) ∙ ap (λ n. get_or olds at e ∷ drop n olds) up in
+    let last : drop at (set tasks at x) ≡ x ∷ drop next tasks = drop-set tasks at x inside ∙ ap (λ n. x ∷ drop n tasks) (sym is) in
+    let one : e ≡ get_or olds at e = found ∙ was.others at e (omega (arith, is)) in
+    record {
+      others = λ k d below. get_or-set_other tasks at k x d (λ equal. absurd (omega (arith, equal, below))) ∙ was.others k d (omega (arith, is, below));
+      same = subst (λ (l : List (ConsumerTask S)). AllZip HasSameParts l (drop at (set tasks at x))) (sym first)
+          (subst (λ (l : List (ConsumerTask S)). AllZip HasSameParts (get_or olds at e ∷ drop next olds) l) (sym last) (subst (λ (t : ConsumerTask S). HasSameParts t x) one same, was.same));
+      long = subst (All (λ (t : ConsumerTask S). length t.returned_seats.items ≡ count)) (sym last)
+          (All-cons (λ (t : ConsumerTask S). length t.returned_seats.items ≡ count) x (drop next tasks) full was.long);
+    }

@@ -2,6 +2,7 @@ pub mod Lists
 pub mod Jobs
 pub mod Deals
 pub mod Parts
+pub mod Joined
 pub mod Whole
 pub mod Numbered
 pub mod SinkItems

@@ -19,12 +19,12 @@ zip_seen R (x ∷ xs) (z ∷ zs) zero y all below e = (x, refl, subst (R x) (sym
 zip_seen R (x ∷ xs) (z ∷ zs) (suc i) y all below e = zip_seen R xs zs i y all.1 (omega arith) e
 
 -- what holds for each element before one, and for that one, holds for each up to it
-pub each_more : {A : Type 0} (R : A → A → Type 0) (olds xs : List A) (at : ℕ) (e new : A) → at < length xs → at < length olds → R (get_or olds at e) new → ((k : ℕ) (d : A) → k < at → R (get_or olds k d) (get_or xs k d))
-    → (k : ℕ) (d : A) → k < at + 1 → R (get_or olds k d) (get_or (set xs at new) k d)
+pub each_more : {A : Type 0} (R : ℕ → A → A → Type 0) (olds xs : List A) (at : ℕ) (e new : A) → at < length xs → at < length olds → R at (get_or olds at e) new → ((k : ℕ) (d : A) → k < at → R k (get_or olds k d) (get_or xs k d))
+    → (k : ℕ) (d : A) → k < at + 1 → R k (get_or olds k d) (get_or (set xs at new) k d)
 each_more R olds xs at e new inside within one before k d below =
     ⊎_elim
     (λ (is : k ≡ at).
-    subst (λ j. R (get_or olds j d) (get_or (set xs at new) j d)) (sym is)
-    (subst (R (get_or olds at d)) (sym (get_or-set_same xs at new d inside)) (subst (λ x. R x new) (get_or_default olds at e d within) one)))
-    (λ (other : k ≢ at). subst (R (get_or olds k d)) (sym (get_or-set_other xs at k new d other)) (before k d (omega arith)))
+    subst (λ j. R j (get_or olds j d) (get_or (set xs at new) j d)) (sym is)
+    (subst (R at (get_or olds at d)) (sym (get_or-set_same xs at new d inside)) (subst (λ x. R at x new) (get_or_default olds at e d within) one)))
+    (λ (other : k ≢ at). subst (R k (get_or olds k d)) (sym (get_or-set_other xs at k new d other)) (before k d (omega arith)))
     (cases_eq k at)

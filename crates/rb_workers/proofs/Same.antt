@@ -66,7 +66,7 @@ list_head x y xs ys e = ap (λ l. get_or l 0 x) e
 pub list_tail : {A : Type 0} (x y : A) (xs ys : List A) → x ∷ xs ≡ y ∷ ys → xs ≡ ys
 list_tail x y xs ys e = ap (λ l. drop 1 l) e
 
-all_again : {S : Type 0} (position : S → ℕ) (takes : S → SinkItem → S → Type 0) (count : ℕ) (opened back : List (Opened S)) → All (IsOpened position count) opened → map (λ o. o.ring) back ≡ map (λ o. o.ring) opened
+pub all_again : {S : Type 0} (position : S → ℕ) (takes : S → SinkItem → S → Type 0) (count : ℕ) (opened back : List (Opened S)) → All (IsOpened position count) opened → map (λ o. o.ring) back ≡ map (λ o. o.ring) opened
     → AllZip (IsConsumed position takes) opened back → AllZip (AllZip IsSameSeat) (seat_rows opened) (seat_rows back) → All (IsOpened position count) back
 all_again position takes count [] [] all rings consumed same = λ k d below. absurd (omega arith)
 all_again position takes count [] (b ∷ bs) all rings consumed same = absurd consumed
@@ -76,25 +76,25 @@ all_again position takes count (o ∷ os) (b ∷ bs) all rings consumed same =
     (again position takes count o b (all_first (IsOpened position count) (o ∷ os) os o refl all) (list_head b.ring o.ring (map (λ x. x.ring) bs) (map (λ x. x.ring) os) rings) consumed.0 same.0)
     (all_again position takes count os bs (all_rest (IsOpened position count) (o ∷ os) os o refl all) (list_tail b.ring o.ring (map (λ x. x.ring) bs) (map (λ x. x.ring) os) rings) consumed.1 same.1)
 
-count_same : {S : Type 0} (opened back : List (Opened S)) → AllZip (AllZip IsSameSeat) (seat_rows opened) (seat_rows back) → workers_of back ≡ workers_of opened
+pub count_same : {S : Type 0} (opened back : List (Opened S)) → AllZip (AllZip IsSameSeat) (seat_rows opened) (seat_rows back) → workers_of back ≡ workers_of opened
 count_same [] [] same = refl
 count_same [] (b ∷ bs) same = absurd same
 count_same (o ∷ os) [] same = absurd same
 count_same (o ∷ os) (b ∷ bs) same = sym (zip_length IsSameSeat o.seats.items b.seats.items same.0)
 
-takers_same : {S : Type 0} (position : S → ℕ) (takes : S → SinkItem → S → Type 0) (opened back : List (Opened S)) → AllZip (IsConsumed position takes) opened back → AllZip (λ o b. IsSameChapterConsumer o.consumer b.consumer) opened back
+pub takers_same : {S : Type 0} (position : S → ℕ) (takes : S → SinkItem → S → Type 0) (opened back : List (Opened S)) → AllZip (IsConsumed position takes) opened back → AllZip (λ o b. IsSameChapterConsumer o.consumer b.consumer) opened back
 takers_same position takes [] [] consumed = tt
 takers_same position takes [] (b ∷ bs) consumed = absurd consumed
 takers_same position takes (o ∷ os) [] consumed = absurd consumed
 takers_same position takes (o ∷ os) (b ∷ bs) consumed = (record { tag_same = consumed.0.0.tag_same; ring_same = consumed.0.0.ring_same; room_same = consumed.0.0.room_same }, takers_same position takes os bs consumed.1)
 
-takers_begin : {S : Type 0} (position : S → ℕ) (takes : S → SinkItem → S → Type 0) (opened back : List (Opened S)) → AllZip (IsConsumed position takes) opened back → AllZip (λ o b. BeginsWith b.consumer.seen o.consumer.seen) opened back
+pub takers_begin : {S : Type 0} (position : S → ℕ) (takes : S → SinkItem → S → Type 0) (opened back : List (Opened S)) → AllZip (IsConsumed position takes) opened back → AllZip (λ o b. BeginsWith b.consumer.seen o.consumer.seen) opened back
 takers_begin position takes [] [] consumed = tt
 takers_begin position takes [] (b ∷ bs) consumed = absurd consumed
 takers_begin position takes (o ∷ os) [] consumed = absurd consumed
 takers_begin position takes (o ∷ os) (b ∷ bs) consumed = (consumed.0.0.begins, takers_begin position takes os bs consumed.1)
 
-sinks_given : {S : Type 0} (position : S → ℕ) (takes : S → SinkItem → S → Type 0) (opened back : List (Opened S)) → AllZip (IsConsumed position takes) opened back → AllZip (SinkGetsTaken takes) opened back
+pub sinks_given : {S : Type 0} (position : S → ℕ) (takes : S → SinkItem → S → Type 0) (opened back : List (Opened S)) → AllZip (IsConsumed position takes) opened back → AllZip (SinkGetsTaken takes) opened back
 sinks_given position takes [] [] consumed = tt
 sinks_given position takes [] (b ∷ bs) consumed = absurd consumed
 sinks_given position takes (o ∷ os) [] consumed = absurd consumed

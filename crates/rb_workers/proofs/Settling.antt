@@ -78,7 +78,7 @@ column_settled k row seats all settled =
     (omega (arith, here, rest, made, submitted, discarded, settled), omega (arith, here, rest, made, submitted, discarded, settled))
 
 -- no seat settles more than it made, so if each worker's seats together settled all, each seat did
-each_settled : (count : ℕ) (seats : List (List WorkerSeat)) → All (λ row. length row ≡ count) seats → All (All SettlesWithin) seats → EachSettled count seats → All (All HasSettledAll) seats
+pub each_settled : (count : ℕ) (seats : List (List WorkerSeat)) → All (λ row. length row ≡ count) seats → All (All SettlesWithin) seats → EachSettled count seats → All (All HasSettledAll) seats
 each_settled count [] seat_rows within settled = All-nil (All HasSettledAll)
 each_settled count (row ∷ seats) seat_rows within settled =
     let len : length row ≡ count = All-head (λ (r : List WorkerSeat). length r ≡ count) row seats seat_rows in

@@ -13,7 +13,7 @@ use Rattle.rb_workers.specs.declared.opened.Opened.{Opened}
 use Rattle.rb_jobs.specs.declared.job.Job.{Job}
 use Rattle.rb_jobs.specs.declared.job.JobAnswer.{JobAnswer}
 use Rattle.rb_jobs.specs.SeatHelpers.{IsAt, AtRings}
-use Rattle.rb_workers.specs.inner.ConsumerTasks.{IsSameConsumer, HasGiven, TakesRest, IsConsumerTaskOf, IsSplitOff, Consumed, IsMergedInto, IsConsumed}
+use Rattle.rb_workers.specs.inner.ConsumerTasks.{IsSameConsumer, HasGiven, TakesRest, IsConsumerTaskOf, IsSplitOff, Consumed, IsConsumed}
 use Rattle.rb_workers.specs.JobRuns.{own_jobs}
 use Rattle.rb_workers.specs.inner.WorkerRuns.{RunsOwnJobs}
 use Rattle.rb_consumer.specs.Keepers.{KeeperValue}
@@ -24,6 +24,7 @@ use Rattle.rb_workers.specs.Sink.{SinkItem}
 use Rattle.rb_ledger.proofs.Beginnings.{begins_with_all}
 use Rattle.rb_workers.proofs.SinkItems.{given_on, given_same, keeper_on, nothing_given, same_on}
 use Rattle.rb_workers.proofs.Numbered.{seats_length}
+use Rattle.rb_workers.proofs.Joined.{IsMergedInto}
 use Rattle.rb_workers.proofs.Parts.{some_of, column_cons, all_first, all_rest}
 
 pub column_at : {S : Type 0} (position : S → ℕ) (count k : ℕ) (opened : List (Opened S)) → All (IsOpened position count) opened → k < count → AtRings (map (λ o. o.ring) opened) (worker_column k (seat_rows opened))

@@ -4,7 +4,7 @@ ghost use Rattle.std.specs.Prelude.{ℕ, ◌≡◌, ◌<◌, ◌≤◌, [], All,
 ghost use Rattle.std.specs.List.{AllZip};
 ghost use Rattle.rb_workers.specs.SeatRows.{worker_column, seat_rows};
 ghost use Rattle.rb_workers.specs.inner.WorkerRuns.{HasSpareSeat, IsOneMore, IsNew, HasSeats};
-ghost use Rattle.rb_workers.specs.inner.ConsumerTasks.{IsSplitOff, IsMergedInto};
+ghost use Rattle.rb_workers.specs.inner.ConsumerTasks.{HasSameParts, IsSplitOff, joined_rings, returned_rows};
 
 use crate::consumer_task::ConsumerTask;
 use crate::opened::Opened;
@@ -81,44 +81,43 @@ pub fn split<S: Drop>(
     }
 }
 
-/// Merges the parts into rings again, each with its seats.
+/// Returns the seats of each ring to the ring's consumer task.
+pub fn return_seats<S: Drop>(workers: &mut [Worker], consumers: &mut [ConsumerTask<S>])
+    requires returned_seats { All (λ t. (t.returned_seats.items ≡ []) × (length workers.old ≤ vec_capacity t.returned_seats)) consumers.old }
+    requires workers { (k : ℕ) (d : _) → k < length workers.old → length (slice_index_or workers.old k d).seats.items ≡ length consumers.old }
+    ensures consumers { AllZip HasSameParts consumers.old consumers.new }
+    ensures seats { All (λ t. length t.returned_seats.items ≡ length workers.old) consumers.new }
+    ensures workers { (k : ℕ) (d : _) → k < length workers.old → HasSeats (slice_index_or workers.new k d) (worker_column k (returned_rows consumers.new)) (slice_index_or workers.old k d) }
+{
+    let mut at = consumers.len();
+    while at > 0 {
+        at -= 1;
+        return_ring(workers, &mut consumers[at].returned_seats);
+    }
+}
+
+/// Merges the parts into rings again. The seats were returned to the consumer tasks before.
 pub fn merge<S: Drop>(
     mut rings: Vec<SharedRing>,
     mut consumers: Vec<ConsumerTask<S>>,
-    workers: &mut [Worker],
     mut merged: Vec<Opened<S>>,
 ) -> Vec<Opened<S>>
     requires len { vec_len consumers ≡ vec_len rings }
-    requires returned_seats { All (λ t. (t.returned_seats.items ≡ []) × (length workers.old ≤ vec_capacity t.returned_seats)) consumers.items }
     requires merged { (merged.items ≡ []) × (vec_len rings ≤ vec_capacity merged) }
-    requires workers { (k : ℕ) (d : _) → k < length workers.old → length (slice_index_or workers.old k d).seats.items ≡ vec_len rings }
-    ensures rings { map (λ o. o.ring) result.items ≡ rings.items }
-    ensures consumers { AllZip IsMergedInto consumers.items result.items }
-    ensures seats { All (λ o. length o.seats.items ≡ length workers.old) result.items }
-    ensures workers { (k : ℕ) (d : _) → k < length workers.old → HasSeats (slice_index_or workers.new k d) (worker_column k (seat_rows result.items)) (slice_index_or workers.old k d) }
+    ensures merged { result.items ≡ joined_rings rings.items consumers.items }
 {
     while let Some(task) = consumers.pop() {
         let Some(ring) = rings.pop() else {
             unreachable!()
         };
-        let ConsumerTask {
-            consumer,
-            keeper,
-            sink,
-            mut returned_seats,
-            batch: _,
-        } = task;
-        return_ring(workers, &mut returned_seats);
-        let one = Opened {
+        merged.push_reserved(Opened {
             ring,
-            seats: returned_seats,
-            consumer,
-            keeper,
-            sink,
-        };
-        if merged.insert(0, one).is_err() {
-            unreachable!()
-        }
+            seats: task.returned_seats,
+            consumer: task.consumer,
+            keeper: task.keeper,
+            sink: task.sink,
+        });
     }
+    merged.reverse();
     merged
 }

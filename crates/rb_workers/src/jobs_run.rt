@@ -2,7 +2,7 @@
 
 ghost use Rattle.std.specs.Prelude.{ℕ, ◌≡◌, ◌≢◌, ◌<◌, ◌≤◌, ◌↔◌, [], All, IfErr, IfOk, false, length, map, slice_index_or, true, vec_capacity, vec_len};
 ghost use Rattle.std.specs.List.{AllZip};
-ghost use Rattle.rb_workers.specs.inner.ConsumerTasks.{IsConsumed};
+ghost use Rattle.rb_workers.specs.inner.ConsumerTasks.{IsConsumed, joined_rings};
 ghost use Rattle.rb_workers.specs.Opened.{AreOpened, IsOpened, workers_of};
 ghost use Rattle.rb_workers.specs.Reports.{IsHandedBack, IsReport, IsRefusedFor, has_unknown_ring, has_unknown_worker};
 ghost use Rattle.rb_workers.specs.JobRuns.{own_jobs};
@@ -14,7 +14,7 @@ ghost use Rattle.rb_workers.specs.inner.ReportAnswers.{ReportMatches};
 ghost use Rattle.rb_workers.specs.inner.WorkerRuns.{HasRun, IsNew};
 
 use crate::consumer_task::ConsumerTask;
-use crate::distribution::{merge, split};
+use crate::distribution::{merge, return_seats, split};
 use crate::job_answers::{Gathered, gather_answers, is_any_short};
 use crate::opened::{Ended, JobFault, JobsReport, Opened};
 use crate::rest::take_rests;
@@ -76,43 +76,43 @@ pub fn count_workers<S: Sink>(opened: &[Opened<S>]) -> u32
     }
 }
 
-// Splits the rings, runs the jobs in threads, and merges the rings again.
+// Splits the rings, runs the jobs in threads, and returns the seats to the consumer tasks.
 fn run_in<R: Threads + Wait + Sync, G: Gate + Sync, S: Sink + Send + Drop>(
     rt: &R,
     alloc: Global,
     opened: Vec<Opened<S>>,
     jobs: &[Job<'_>],
     gate: &G,
-    mut rings: Vec<SharedRing>,
-    mut consumers: Vec<ConsumerTask<S>>,
+    rings: &mut Vec<SharedRing>,
+    consumers: &mut Vec<ConsumerTask<S>>,
     batches: Vec<Batch>,
     sheets: &ArrayQueue<Sheet>,
-    merged: Vec<Opened<S>>,
     workers: &mut [Worker],
-) -> Vec<Opened<S>>
+)
     requires jobs { All (λ j. j.program.now.rings ≤ vec_len opened) jobs.now }
     requires opened { All (IsOpened S.position_of (length workers.old)) opened.items }
     requires count { length workers.old ≡ workers_of opened.items }
     requires batches { vec_len batches ≡ vec_len opened }
-    requires empty { (rings.items ≡ []) × (consumers.items ≡ []) × (merged.items ≡ []) }
-    requires room { (vec_len opened ≤ vec_capacity rings) × (vec_len opened ≤ vec_capacity consumers) × (vec_len opened ≤ vec_capacity merged) }
+    requires empty { (rings.old.items ≡ []) × (consumers.old.items ≡ []) }
+    requires room { (vec_len opened ≤ vec_capacity rings.old) × (vec_len opened ≤ vec_capacity consumers.old) }
     requires workers { (k : ℕ) (d : _) → k < length workers.old → IsNew k (vec_len opened) (slice_index_or workers.old k d) }
-    ensures handed_back { IsHandedBack S.position_of S.takes opened.items jobs.now result.items }
-    ensures consumed { AllZip (IsConsumed S.position_of S.takes) opened.items result.items }
-    ensures workers { (k : ℕ) (d : _) → k < workers_of opened.items → HasRun k jobs.now (worker_column k (seat_rows opened.items)) (worker_column k (seat_rows result.items)) (slice_index_or workers.new k d) }
+    ensures len { vec_len consumers.new ≡ vec_len rings.new }
+    ensures handed_back { IsHandedBack S.position_of S.takes opened.items jobs.now (joined_rings rings.new.items consumers.new.items) }
+    ensures consumed { AllZip (IsConsumed S.position_of S.takes) opened.items (joined_rings rings.new.items consumers.new.items) }
+    ensures workers { (k : ℕ) (d : _) → k < workers_of opened.items → HasRun k jobs.now (worker_column k (seat_rows opened.items)) (worker_column k (seat_rows (joined_rings rings.new.items consumers.new.items))) (slice_index_or workers.new k d) }
 {
-    split(opened, &mut rings, &mut consumers, batches, workers);
+    split(opened, rings, consumers, batches, workers);
     run_threads(
         rt,
         alloc,
-        &rings,
+        rings.as_slice(),
         jobs,
         gate,
         sheets,
         workers,
-        &mut consumers,
+        consumers.as_mut_slice(),
     );
-    merge(rings, consumers, workers, merged)
+    return_seats(workers, consumers.as_mut_slice());
 }
 
 // Runs the jobs in threads, like `run_in`, and then takes what is left in the rings.
@@ -122,30 +122,29 @@ fn run_and_empty<R: Threads + Wait + Sync, G: Gate + Sync, S: Sink + Send + Drop
     opened: Vec<Opened<S>>,
     jobs: &[Job<'_>],
     gate: &G,
-    rings: Vec<SharedRing>,
-    consumers: Vec<ConsumerTask<S>>,
+    rings: &mut Vec<SharedRing>,
+    consumers: &mut Vec<ConsumerTask<S>>,
     batches: Vec<Batch>,
     rest: &mut Batch,
     sheets: &ArrayQueue<Sheet>,
-    merged: Vec<Opened<S>>,
     workers: &mut [Worker],
-) -> Vec<Opened<S>>
+)
     requires jobs { All (λ j. j.program.now.rings ≤ vec_len opened) jobs.now }
     requires opened { All (IsOpened S.position_of (length workers.old)) opened.items }
     requires count { length workers.old ≡ workers_of opened.items }
     requires batches { vec_len batches ≡ vec_len opened }
-    requires empty { (rings.items ≡ []) × (consumers.items ≡ []) × (merged.items ≡ []) }
-    requires room { (vec_len opened ≤ vec_capacity rings) × (vec_len opened ≤ vec_capacity consumers) × (vec_len opened ≤ vec_capacity merged) }
+    requires empty { (rings.old.items ≡ []) × (consumers.old.items ≡ []) }
+    requires room { (vec_len opened ≤ vec_capacity rings.old) × (vec_len opened ≤ vec_capacity consumers.old) }
     requires workers { (k : ℕ) (d : _) → k < length workers.old → IsNew k (vec_len opened) (slice_index_or workers.old k d) }
-    ensures handed_back { IsHandedBack S.position_of S.takes opened.items jobs.now result.items }
-    ensures drained { All IsDrained result.items }
-    ensures workers { (k : ℕ) (d : _) → k < workers_of opened.items → HasRun k jobs.now (worker_column k (seat_rows opened.items)) (worker_column k (seat_rows result.items)) (slice_index_or workers.new k d) }
+    ensures len { vec_len consumers.new ≡ vec_len rings.new }
+    ensures handed_back { IsHandedBack S.position_of S.takes opened.items jobs.now (joined_rings rings.new.items consumers.new.items) }
+    ensures drained { All IsDrained (joined_rings rings.new.items consumers.new.items) }
+    ensures workers { (k : ℕ) (d : _) → k < workers_of opened.items → HasRun k jobs.now (worker_column k (seat_rows opened.items)) (worker_column k (seat_rows (joined_rings rings.new.items consumers.new.items))) (slice_index_or workers.new k d) }
 {
-    let mut merged = run_in(
-        rt, alloc, opened, jobs, gate, rings, consumers, batches, sheets, merged, workers,
+    run_in(
+        rt, alloc, opened, jobs, gate, rings, consumers, batches, sheets, workers,
     );
-    take_rests(rt, merged.as_mut_slice(), rest);
-    merged
+    take_rests(rt, rings.as_slice(), consumers.as_mut_slice(), rest);
 }
 
 // Returns the report on jobs over these closed rings, after each worker ran all its jobs.
@@ -189,8 +188,8 @@ fn run_known<R: Threads + Wait + Sync, S: Sink + Send + Drop, G: Gate + Sync>(
     ensures handed_back { IfErr result (λ b. IsHandedBack S.position_of S.takes opened.items jobs.now b.items) }
 {
     let RunBuffers {
-        rings,
-        consumers,
+        mut rings,
+        mut consumers,
         batches,
         mut rest,
         sheets,
@@ -200,24 +199,23 @@ fn run_known<R: Threads + Wait + Sync, S: Sink + Send + Drop, G: Gate + Sync>(
         ended,
         results,
     } = buffers;
-    let merged = run_and_empty(
+    run_and_empty(
         rt,
         alloc,
         opened,
         jobs,
         gate,
-        rings,
-        consumers,
+        &mut rings,
+        &mut consumers,
         batches,
         &mut rest,
         &sheets,
-        merged,
         workers.as_mut_slice(),
     );
     if is_any_short(&workers) {
-        return Err(merged);
+        return Err(merge(rings, consumers, merged));
     }
-    let rings = close_all(rt, merged, tallies, ended);
+    let rings = close_all(rt, rings, consumers, tallies, ended);
     Ok(report_on(rings, jobs, workers.as_mut_slice(), results))
 }
 

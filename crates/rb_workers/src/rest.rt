@@ -1,17 +1,15 @@
 //! Taking what is left in the rings after all workers have ended.
 
-ghost use Rattle.std.specs.Prelude.{◌≡◌, ◌<◌, ◌↔◌, ℕ, All, IsTrue, length, slice_index_or};
-ghost use Rattle.rb_ledger.specs.Seats.{HasSettledAll, all_discarded, all_submitted};
-ghost use Rattle.rb_workers.specs.Opened.{AreOpened, IsKeeperFor};
+ghost use Rattle.std.specs.Prelude.{◌≡◌, ◌↔◌, All, IsTrue};
+ghost use Rattle.std.specs.List.{AllZip};
+ghost use Rattle.rb_ledger.specs.Seats.{HasSettledAll, Shared, all_discarded, all_submitted};
 ghost use Rattle.rb_workers.specs.Rest.{IsDrained};
-ghost use Rattle.rb_workers.specs.declared.opened.Opened.{Opened};
-ghost use Rattle.rb_workers.specs.inner.ConsumerTasks.{TakesRest};
+ghost use Rattle.rb_workers.specs.inner.ConsumerTasks.{IsConsumerTaskOf, TakesRest, joined_ring, joined_rings};
 
-use crate::consumer_task::pass_batch;
-use crate::opened::Opened;
+use crate::consumer_task::{ConsumerTask, pass_batch};
 use crate::sink::Sink;
 use rb_consumer::Batch;
-use rb_shared_ring::Seat;
+use rb_shared_ring::{Seat, SharedRing};
 use std::sync::Wait;
 use std::thread;
 
@@ -47,23 +45,30 @@ fn are_numbers_of(seats: &[Seat], consumed: u64, skipped: u64) -> bool
 }
 
 // Returns whether the ring's consumer took every record that the seats made, or one of them is still busy.
-fn is_drained<S>(one: &Opened<S>) -> bool
-    ensures drained { IsTrue result → IsDrained one.now }
+fn is_drained<S>(task: &ConsumerTask<S>) -> bool
+    ensures drained { (ring : Shared) → IsTrue result → IsDrained (joined_ring ring task.now) }
 {
-    !are_settled(&one.seats)
-        || are_numbers_of(&one.seats, one.consumer.consumed(), one.consumer.skipped())
+    !are_settled(&task.returned_seats)
+        || are_numbers_of(
+            &task.returned_seats,
+            task.consumer.consumed(),
+            task.consumer.skipped(),
+        )
 }
 
 // Takes what is left in a ring whose workers have ended, up to the first busy record.
-fn take_rest<R: Wait, S: Sink>(rt: &R, one: &mut Opened<S>, batch: &mut Batch)
-    requires ring { (one.old.consumer.tag ≡ one.old.ring.tag) × (one.old.consumer.ring ≡ one.old.ring.ring) }
-    requires follows { S.position_of one.old.sink ≡ one.old.consumer.position }
-    requires keeper { IsKeeperFor one.old.consumer one.old.keeper }
-    ensures rest { TakesRest S.position_of S.takes one.old one.new }
+fn take_rest<R: Wait, S: Sink>(
+    rt: &R,
+    ring: &SharedRing,
+    task: &mut ConsumerTask<S>,
+    batch: &mut Batch,
+)
+    requires ready { IsConsumerTaskOf S.position_of ring.now task.old }
+    ensures rest { TakesRest S.position_of S.takes (joined_ring ring.now task.old) (joined_ring ring.now task.new) }
 {
     for _ in rt.forever() {
-        let count = pass_batch(rt, &one.ring, &mut one.consumer, &mut one.sink, batch);
-        if count == 0 && is_drained(one) {
+        let count = pass_batch(rt, ring, &mut task.consumer, &mut task.sink, batch);
+        if count == 0 && is_drained(task) {
             return;
         }
         if count == 0 {
@@ -75,11 +80,16 @@ fn take_rest<R: Wait, S: Sink>(rt: &R, one: &mut Opened<S>, batch: &mut Batch)
 
 /// Takes what is left in the rings, whose workers have ended: from each ring, up to the first record that is still
 /// busy.
-pub fn take_rests<R: Wait, S: Sink>(rt: &R, merged: &mut [Opened<S>], batch: &mut Batch)
-    requires opened { AreOpened S.position_of merged.old }
-    ensures each { (k : ℕ) (d : Opened _) → k < length merged.old → TakesRest S.position_of S.takes (slice_index_or merged.old k d) (slice_index_or merged.new k d) }
+pub fn take_rests<R: Wait, S: Sink>(
+    rt: &R,
+    rings: &[SharedRing],
+    consumers: &mut [ConsumerTask<S>],
+    batch: &mut Batch,
+)
+    requires ready { AllZip (IsConsumerTaskOf S.position_of) rings.now consumers.old }
+    ensures rests { AllZip (TakesRest S.position_of S.takes) (joined_rings rings.now consumers.old) (joined_rings rings.now consumers.new) }
 {
-    for at in 0..merged.len() {
-        take_rest(rt, &mut merged[at], batch);
+    for at in 0..consumers.len() {
+        take_rest(rt, &rings[at], &mut consumers[at], batch);
     }
 }

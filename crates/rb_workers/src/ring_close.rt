@@ -4,12 +4,14 @@ ghost use Rattle.std.specs.Prelude.{◌≡◌, ◌≤◌, [], All, length, map, 
 ghost use Rattle.std.specs.List.{AllZip};
 ghost use Rattle.rb_workers.specs.inner.RunBuffers.{IsEmptyFor};
 ghost use Rattle.rb_workers.specs.Opened.{AreOpened, IsOpened, workers_of};
+ghost use Rattle.rb_workers.specs.inner.ConsumerTasks.{joined_ring, joined_rings};
 ghost use Rattle.rb_workers.specs.inner.RingEnds.{Closes};
 
-use crate::opened::{Ended, Opened};
+use crate::consumer_task::ConsumerTask;
+use crate::opened::Ended;
 use crate::sink::Sink;
 use rb_history::Tally;
-use rb_shared_ring::Seat;
+use rb_shared_ring::{Seat, SharedRing};
 use std::sync::Wait;
 
 // Returns a seat's counts.
@@ -35,21 +37,26 @@ fn tallies_of(seats: &[Seat], mut row: Vec<Tally>) -> Vec<Tally>
     row
 }
 
-// Closes a ring to which all its seats were returned.
-fn close_one<R: Wait, S: Sink>(rt: &R, one: Opened<S>, row: Vec<Tally>) -> Ended<S>
-    requires opened { IsOpened S.position_of (length one.seats.items) one }
-    requires row { IsEmptyFor (length one.seats.items) row }
-    ensures closes { Closes one result }
+// Closes a ring to whose consumer task all its seats were returned.
+fn close_one<R: Wait, S: Sink>(
+    rt: &R,
+    ring: SharedRing,
+    task: ConsumerTask<S>,
+    row: Vec<Tally>,
+) -> Ended<S>
+    requires opened { IsOpened S.position_of (length task.returned_seats.items) (joined_ring ring task) }
+    requires row { IsEmptyFor (length task.returned_seats.items) row }
+    ensures closes { Closes (joined_ring ring task) result }
 {
-    let Opened {
-        ring,
-        seats,
+    let ConsumerTask {
         consumer,
         keeper,
         sink,
-    } = one;
-    let tallies = tallies_of(&seats, row);
-    match ring.close(rt, seats, consumer) {
+        returned_seats,
+        batch: _,
+    } = task;
+    let tallies = tallies_of(&returned_seats, row);
+    match ring.close(rt, returned_seats, consumer) {
         Ok(closing) => Ended {
             closing,
             tallies,
@@ -63,20 +70,26 @@ fn close_one<R: Wait, S: Sink>(rt: &R, one: Opened<S>, row: Vec<Tally>) -> Ended
 /// Closes all rings, each with a row for its counts.
 pub fn close_all<R: Wait, S: Sink + Drop>(
     rt: &R,
-    merged: Vec<Opened<S>>,
+    mut rings: Vec<SharedRing>,
+    mut consumers: Vec<ConsumerTask<S>>,
     mut tallies: Vec<Vec<Tally>>,
     mut ended: Vec<Ended<S>>,
 ) -> Vec<Ended<S>>
-    requires opened { AreOpened S.position_of merged.items }
-    requires tallies { (vec_len tallies ≡ vec_len merged) × All (IsEmptyFor (workers_of merged.items)) tallies.items }
-    requires ended { (ended.items ≡ []) × (vec_len merged ≤ vec_capacity ended) }
-    ensures closes { AllZip Closes merged.items result.items }
+    requires len { vec_len consumers ≡ vec_len rings }
+    requires opened { AreOpened S.position_of (joined_rings rings.items consumers.items) }
+    requires tallies { (vec_len tallies ≡ vec_len rings) × All (IsEmptyFor (workers_of (joined_rings rings.items consumers.items))) tallies.items }
+    requires ended { (ended.items ≡ []) × (vec_len rings ≤ vec_capacity ended) }
+    ensures closes { AllZip Closes (joined_rings rings.items consumers.items) result.items }
 {
-    for one in merged {
+    while let Some(task) = consumers.pop() {
+        let Some(ring) = rings.pop() else {
+            unreachable!()
+        };
         let Some(row) = tallies.pop() else {
             unreachable!()
         };
-        ended.push_reserved(close_one(rt, one, row));
+        ended.push_reserved(close_one(rt, ring, task, row));
     }
+    ended.reverse();
     ended
 }

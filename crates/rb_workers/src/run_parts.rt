@@ -2,7 +2,7 @@
 //! closed.
 
 pub use crate::consumer_task::ConsumerTask;
-pub use crate::distribution::{merge, split};
+pub use crate::distribution::{merge, return_seats, split};
 pub use crate::jobs_run::count_workers;
 pub use crate::rest::take_rests;
 pub use crate::ring_close::close_all;

@@ -1,9 +1,9 @@
 -- The effect of a run on consumers and sinks.
-use Rattle.std.specs.Prelude.{◌≡◌, ℕ, ◌<◌, ◌≤◌, List, [], All, IfSome, length, map, vec_capacity}
+use Rattle.std.specs.Prelude.{◌≡◌, ℕ, ◌<◌, ◌≤◌, List, [], ◌∷◌, All, IfSome, length, map, vec_capacity}
 use Rattle.std.specs.FinMap.{get}
 use Rattle.rb_history.specs.declared.answers.Taken.{Taken}
 use Rattle.rb_ledger.specs.Roles.{BeginsWith}
-use Rattle.rb_ledger.specs.Seats.{Shared}
+use Rattle.rb_ledger.specs.Seats.{Shared, WorkerSeat}
 use Rattle.rb_ledger.specs.ChapterSeats.{ChapterConsumerSeat}
 use Rattle.rb_workers.specs.Sink.{SinkItem, GetsTaken, sink_position}
 use Rattle.rb_workers.specs.Sink.SinkItem.{Record}
@@ -51,9 +51,23 @@ Consumed position takes old new =
 abbrev pub IsSplitOff : {S : Type 0} → Opened S → ConsumerTask S → Type 0
 IsSplitOff o t = (t.consumer ≡ o.consumer) × (t.sink ≡ o.sink) × (t.returned_seats.items ≡ []) × (length o.seats.items ≤ vec_capacity t.returned_seats) × (t.keeper ≡ o.keeper)
 
--- the consumer, the sink and the keeper become part of the opened ring again
-abbrev pub IsMergedInto : {S : Type 0} → ConsumerTask S → Opened S → Type 0
-IsMergedInto t o = (o.consumer ≡ t.consumer) × (o.sink ≡ t.sink) × (o.keeper ≡ t.keeper)
+-- the same task, possibly with other seats
+abbrev pub HasSameParts : {S : Type 0} → ConsumerTask S → ConsumerTask S → Type 0
+HasSameParts t u = (u.consumer ≡ t.consumer) × (u.sink ≡ t.sink) × (u.keeper ≡ t.keeper)
+
+-- the seats that were returned to the tasks, a row for each ring
+abbrev pub returned_rows : {S : Type 0} → List (ConsumerTask S) → List (List WorkerSeat)
+returned_rows tasks = map (λ t. t.returned_seats.items) tasks
+
+-- the opened ring that has these parts
+abbrev pub joined_ring : {S : Type 0} → Shared → ConsumerTask S → Opened S
+joined_ring ring t = record { ring = ring; seats = t.returned_seats; consumer = t.consumer; keeper = t.keeper; sink = t.sink }
+
+-- the same for each ring
+abbrev pub joined_rings : {S : Type 0} → List Shared → List (ConsumerTask S) → List (Opened S)
+joined_rings [] tasks = []
+joined_rings (ring ∷ rings) [] = []
+joined_rings (ring ∷ rings) (t ∷ tasks) = joined_ring ring t ∷ joined_rings rings tasks
 
 -- the same consumer; the sink was given what the consumer took and handed out, and its position is the consumer's; and
 -- the keeper still fits the ring
