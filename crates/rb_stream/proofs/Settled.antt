@@ -1,7 +1,6 @@
 -- Rings whose seats submitted or discarded all records that they made, before a stream and after it.
-use Rattle.std.proofs.Common.{sym, ap, map, ◌≡◌, ℕ, zero, suc, ◌+◌, ◌<◌, ◌≤◌, List, [], ◌∷◌, length, subst, ◌∙◌, arith}
+use Rattle.std.proofs.Common.{sym, ap, map, ◌≡◌, ℕ, ◌<◌, List, [], ◌∷◌, subst, ◌∙◌, arith}
 use Rattle.std.proofs.lemmas.List.Elements.{All-head, All-tail, All-cons, All-nil, All-same, All-map}
-use Rattle.std.specs.Prelude.{slice_get}
 use Rattle.std.specs.List.{All, AllZip}
 use Rattle.rb_verifier.specs.Subject.{Subject}
 use Rattle.rb_history.specs.declared.answers.Counts.{Counts}
@@ -11,7 +10,6 @@ use Rattle.rb_ledger.specs.ChapterSeats.{whole_consumer}
 use Rattle.rb_ledger.proofs.BoundChapters.{gathered-continues}
 use Rattle.rb_ledger.proofs.Sums.{once-closed}
 use Rattle.rb_ledger.proofs.WholeCalls.{said}
-use Rattle.rb_jobs.specs.SeatHelpers.{made_in, submitted_in, discarded_in}
 use Rattle.rb_jobs.proofs.Returned.{jobs_balance}
 use Rattle.rb_workers.specs.declared.opened.Opened.{Opened}
 use Rattle.rb_workers.specs.declared.opened.Ended.{Ended}
@@ -21,7 +19,7 @@ use Rattle.rb_workers.specs.Reports.{ring_at_end}
 use Rattle.rb_workers.specs.SeatRows.{seat_rows, worker_column}
 use Rattle.rb_workers.specs.Settled.{AreSettled, EachSettled, IsEven, EndsSettled}
 use Rattle.rb_workers.proofs.Same.{opened_long}
-use Rattle.rb_workers.proofs.Sums.{number_at, cons_sum}
+use Rattle.rb_workers.proofs.Settling.{each_settled}
 use Rattle.rb_stream_worker.specs.Tasks.{TaskRun, RunsTasks}
 use Rattle.rb_stream_worker.specs.Turns.{RunsAs, RunsTurn, RunsTurns}
 use Rattle.rb_stream_worker.specs.declared.when_full.Turns.{Turns}
@@ -52,56 +50,6 @@ turns_settle t worker programs (runs ∷ parts) old new turns settled = turns_se
 runs_settle : (full : WhenFull) (worker : ℕ) (programs : List Subject) (runs : List TaskRun) (old new : List WorkerSeat) → RunsAs full worker programs runs old new → AreSettled old → AreSettled new
 runs_settle Refuse worker programs runs old new ran settled = tasks_settle worker programs runs old new ran settled
 runs_settle (Wait t) worker programs runs old new ran settled = turns_settle t worker programs ran.0 old new ran.2 settled
-
--- ---- one row
-
-abbrev made_at : List WorkerSeat → ℕ → ℕ
-made_at row k = number_at (λ s. s.tally.made) (slice_get row k)
-
-abbrev submitted_at : List WorkerSeat → ℕ → ℕ
-submitted_at row k = number_at (λ s. s.tally.submitted) (slice_get row k)
-
-abbrev discarded_at : List WorkerSeat → ℕ → ℕ
-discarded_at row k = number_at (λ s. s.tally.discarded) (slice_get row k)
-
-within_at : (row : List WorkerSeat) (k : ℕ) → All SettlesWithin row → submitted_at row k + discarded_at row k ≤ made_at row k
-within_at [] k all = omega arith
-within_at (s ∷ row) zero all = All-head SettlesWithin s row all
-within_at (s ∷ row) (suc k) all = within_at row k (All-tail SettlesWithin s row all)
-
-row_settled : (row : List WorkerSeat) → ((k : ℕ) → k < length row → made_at row k ≡ submitted_at row k + discarded_at row k) → All HasSettledAll row
-row_settled [] each = All-nil HasSettledAll
-row_settled (s ∷ row) each = All-cons HasSettledAll s row (each 0 (omega arith)) (row_settled row (λ k below. each (suc k) (omega arith)))
-
--- ---- all rows
-
-column_within : (k : ℕ) (seats : List (List WorkerSeat)) → All (All SettlesWithin) seats → submitted_in (worker_column k seats) + discarded_in (worker_column k seats) ≤ made_in (worker_column k seats)
-column_within k [] all = omega arith
-column_within k (row ∷ seats) all =
-    let here = within_at row k (All-head (All SettlesWithin) row seats all) in
-    let rest = column_within k seats (All-tail (All SettlesWithin) row seats all) in
-    let made = cons_sum (λ (s : WorkerSeat). s.tally.made) (slice_get row k) (worker_column k seats) in
-    let submitted = cons_sum (λ (s : WorkerSeat). s.tally.submitted) (slice_get row k) (worker_column k seats) in
-    let discarded = cons_sum (λ (s : WorkerSeat). s.tally.discarded) (slice_get row k) (worker_column k seats) in
-    omega (arith, here, rest, made, submitted, discarded)
-
-column_settled : (k : ℕ) (row : List WorkerSeat) (seats : List (List WorkerSeat)) → All (All SettlesWithin) (row ∷ seats) → AreSettled (worker_column k (row ∷ seats))
-    → (made_at row k ≡ submitted_at row k + discarded_at row k) × AreSettled (worker_column k seats)
-column_settled k row seats all settled =
-    let here = within_at row k (All-head (All SettlesWithin) row seats all) in
-    let rest = column_within k seats (All-tail (All SettlesWithin) row seats all) in
-    let made = cons_sum (λ (s : WorkerSeat). s.tally.made) (slice_get row k) (worker_column k seats) in
-    let submitted = cons_sum (λ (s : WorkerSeat). s.tally.submitted) (slice_get row k) (worker_column k seats) in
-    let discarded = cons_sum (λ (s : WorkerSeat). s.tally.discarded) (slice_get row k) (worker_column k seats) in
-    (omega (arith, here, rest, made, submitted, discarded, settled), omega (arith, here, rest, made, submitted, discarded, settled))
-
--- no seat settles more than it made, so if each worker's seats together settled all, each seat did
-each_settled : (count : ℕ) (seats : List (List WorkerSeat)) → All (λ row. length row ≡ count) seats → All (All SettlesWithin) seats → EachSettled count seats → All (All HasSettledAll) seats
-each_settled count [] rows within settled = All-nil (All HasSettledAll)
-each_settled count (row ∷ seats) rows within settled =
-    let len : length row ≡ count = All-head (λ (r : List WorkerSeat). length r ≡ count) row seats rows in
-    All-cons (All HasSettledAll) row seats (row_settled row (λ k below. (column_settled k row seats within (settled k (omega (arith, len, below)))).0))
-    (each_settled count seats (All-tail (λ (r : List WorkerSeat). length r ≡ count) row seats rows) (All-tail (All SettlesWithin) row seats within) (λ k below. (column_settled k row seats within (settled k below)).1))
 
 -- ---- closed rings
 

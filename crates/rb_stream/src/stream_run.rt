@@ -10,7 +10,7 @@ ghost use Rattle.rb_workers.specs.Opened.{AreOpened, IsOpened, workers_of};
 ghost use Rattle.rb_workers.specs.Rest.{IsDrained, LeavesNothing};
 ghost use Rattle.rb_workers.specs.SeatRows.{seat_rows, worker_column};
 ghost use Rattle.rb_workers.specs.Settled.{EachSettled, EndsSettled};
-ghost use Rattle.rb_workers.specs.inner.ConsumerTasks.{Consumed, IsConsumed, IsConsumerTaskOf};
+ghost use Rattle.rb_workers.specs.inner.ConsumerTasks.{Consumed, IsConsumed, IsConsumerTaskOf, joined_rings};
 ghost use Rattle.rb_workers.specs.inner.RunBuffers.{HasRoomForRun};
 ghost use Rattle.rb_workers.specs.inner.WorkerRuns.{IsNew};
 ghost use Rattle.rb_stream.specs.Refusals.{StopsFor, has_other_length, has_unknown_ring};
@@ -31,8 +31,8 @@ use rb_source::Source;
 use rb_stream_worker::{CountOptions, StreamCounts, WhenFull};
 use rb_verifier::Verified;
 use rb_workers::run_parts::{
-    ConsumerTask, RunBuffers, Worker, close_all, count_workers, make_buffers, merge, split,
-    take_rests,
+    ConsumerTask, RunBuffers, Worker, close_all, count_workers, make_buffers, merge, return_seats,
+    split, take_rests,
 };
 use rb_workers::used_sheets::UsedSheets;
 use rb_workers::{Opened, Sink};
@@ -102,7 +102,7 @@ fn run_split<R: Threads + Wait + Sync, I: Source + Send, S: Sink + Send>(
     add_up(lanes.as_slice(), total);
 }
 
-// Splits the rings, runs the stream in threads, and merges the rings again.
+// Splits the rings, runs the stream in threads, and returns the seats to the consumer tasks.
 fn run_in<R: Threads + Wait + Sync, I: Source + Send, S: Sink + Send + Drop>(
     rt: &R,
     alloc: Global,
@@ -112,36 +112,36 @@ fn run_in<R: Threads + Wait + Sync, I: Source + Send, S: Sink + Send + Drop>(
     ctx_len: u32,
     source: &mut I,
     late: Late,
-    mut rings: Vec<SharedRing>,
-    mut consumers: Vec<ConsumerTask<S>>,
+    rings: &mut Vec<SharedRing>,
+    consumers: &mut Vec<ConsumerTask<S>>,
     batches: Vec<Batch>,
     sheets: &ArrayQueue<Sheet>,
-    merged: Vec<Opened<S>>,
     workers: &mut [Worker],
     options: CountOptions<'_>,
     dealt: &mut Dealt,
     total: &mut StreamCounts,
-) -> Vec<Opened<S>>
+)
     requires fit { All (IsProgramFor (vec_len opened) ctx_len) programs.now }
     requires limits { FitsRings full.now (vec_len opened) }
     requires opened { All (IsOpened S.position_of (length workers.old)) opened.items }
     requires count { length workers.old ≡ workers_of opened.items }
     requires batches { vec_len batches ≡ vec_len opened }
-    requires empty { (rings.items ≡ []) × (consumers.items ≡ []) × (merged.items ≡ []) }
-    requires room { (vec_len opened ≤ vec_capacity rings) × (vec_len opened ≤ vec_capacity consumers) × (vec_len opened ≤ vec_capacity merged) }
+    requires empty { (rings.old.items ≡ []) × (consumers.old.items ≡ []) }
+    requires room { (vec_len opened ≤ vec_capacity rings.old) × (vec_len opened ≤ vec_capacity consumers.old) }
     requires workers { (k : ℕ) (d : _) → k < length workers.old → IsNew k (vec_len opened) (slice_index_or workers.old k d) }
     requires dealt { (dealt.old.contexts ≡ 0) × (dealt.old.dropped ≡ 0) × IsEndOf I.is_over I.fails source.old dealt.old.end }
     requires total { IsNewCounts (length programs.now) options.bound total.old }
-    ensures returned { AreReturned S.position_of S.takes opened.items result.items }
-    ensures consumed { AllZip (IsConsumed S.position_of S.takes) opened.items result.items }
-    ensures ran { StreamRan I.gives (workers_of opened.items) programs.now full.now options.entry.bound source.old source.new (λ k. worker_column k (seat_rows opened.items)) (λ k. worker_column k (seat_rows result.items)) dealt.new total.new }
+    ensures len { vec_len consumers.new ≡ vec_len rings.new }
+    ensures returned { AreReturned S.position_of S.takes opened.items (joined_rings rings.new.items consumers.new.items) }
+    ensures consumed { AllZip (IsConsumed S.position_of S.takes) opened.items (joined_rings rings.new.items consumers.new.items) }
+    ensures ran { StreamRan I.gives (workers_of opened.items) programs.now full.now options.entry.bound source.old source.new (λ k. worker_column k (seat_rows opened.items)) (λ k. worker_column k (seat_rows (joined_rings rings.new.items consumers.new.items))) dealt.new total.new }
     ensures end { IsEndOf I.is_over I.fails source.new dealt.new.end }
 {
-    split(opened, &mut rings, &mut consumers, batches, workers);
+    split(opened, rings, consumers, batches, workers);
     run_split(
         rt,
         alloc,
-        &rings,
+        rings.as_slice(),
         programs,
         full,
         ctx_len,
@@ -149,12 +149,12 @@ fn run_in<R: Threads + Wait + Sync, I: Source + Send, S: Sink + Send + Drop>(
         late,
         sheets,
         workers,
-        &mut consumers,
+        consumers.as_mut_slice(),
         options,
         dealt,
         total,
     );
-    merge(rings, consumers, workers, merged)
+    return_seats(workers, consumers.as_mut_slice());
 }
 
 // Runs the stream, like `run_in`, and then takes what is left in the rings.
@@ -167,38 +167,37 @@ fn run_and_empty<R: Threads + Wait + Sync, I: Source + Send, S: Sink + Send + Dr
     ctx_len: u32,
     source: &mut I,
     late: Late,
-    rings: Vec<SharedRing>,
-    consumers: Vec<ConsumerTask<S>>,
+    rings: &mut Vec<SharedRing>,
+    consumers: &mut Vec<ConsumerTask<S>>,
     batches: Vec<Batch>,
     rest: &mut Batch,
     sheets: &ArrayQueue<Sheet>,
-    merged: Vec<Opened<S>>,
     workers: &mut [Worker],
     options: CountOptions<'_>,
     dealt: &mut Dealt,
     total: &mut StreamCounts,
-) -> Vec<Opened<S>>
+)
     requires fit { All (IsProgramFor (vec_len opened) ctx_len) programs.now }
     requires limits { FitsRings full.now (vec_len opened) }
     requires opened { All (IsOpened S.position_of (length workers.old)) opened.items }
     requires count { length workers.old ≡ workers_of opened.items }
     requires batches { vec_len batches ≡ vec_len opened }
-    requires empty { (rings.items ≡ []) × (consumers.items ≡ []) × (merged.items ≡ []) }
-    requires room { (vec_len opened ≤ vec_capacity rings) × (vec_len opened ≤ vec_capacity consumers) × (vec_len opened ≤ vec_capacity merged) }
+    requires empty { (rings.old.items ≡ []) × (consumers.old.items ≡ []) }
+    requires room { (vec_len opened ≤ vec_capacity rings.old) × (vec_len opened ≤ vec_capacity consumers.old) }
     requires workers { (k : ℕ) (d : _) → k < length workers.old → IsNew k (vec_len opened) (slice_index_or workers.old k d) }
     requires dealt { (dealt.old.contexts ≡ 0) × (dealt.old.dropped ≡ 0) × IsEndOf I.is_over I.fails source.old dealt.old.end }
     requires total { IsNewCounts (length programs.now) options.bound total.old }
-    ensures returned { AreReturned S.position_of S.takes opened.items result.items }
-    ensures drained { All IsDrained result.items }
-    ensures ran { StreamRan I.gives (workers_of opened.items) programs.now full.now options.entry.bound source.old source.new (λ k. worker_column k (seat_rows opened.items)) (λ k. worker_column k (seat_rows result.items)) dealt.new total.new }
+    ensures len { vec_len consumers.new ≡ vec_len rings.new }
+    ensures returned { AreReturned S.position_of S.takes opened.items (joined_rings rings.new.items consumers.new.items) }
+    ensures drained { All IsDrained (joined_rings rings.new.items consumers.new.items) }
+    ensures ran { StreamRan I.gives (workers_of opened.items) programs.now full.now options.entry.bound source.old source.new (λ k. worker_column k (seat_rows opened.items)) (λ k. worker_column k (seat_rows (joined_rings rings.new.items consumers.new.items))) dealt.new total.new }
     ensures end { IsEndOf I.is_over I.fails source.new dealt.new.end }
 {
-    let mut merged = run_in(
+    run_in(
         rt, alloc, opened, programs, full, ctx_len, source, late, rings, consumers, batches,
-        sheets, merged, workers, options, dealt, total,
+        sheets, workers, options, dealt, total,
     );
-    take_rests(rt, merged.as_mut_slice(), rest);
-    merged
+    take_rests(rt, rings.as_slice(), consumers.as_mut_slice(), rest);
 }
 
 // Returns why the stream ended, if all contexts of the source were dealt and run.
@@ -245,8 +244,8 @@ fn run_known<R: Threads + Wait + Sync, I: Source + Send, S: Sink + Send + Drop>(
     ensures stopped { IfErr result (IsStoppedAs full.now S.position_of S.takes I.gives opened.items programs.now source.old source.new) }
 {
     let RunBuffers {
-        rings,
-        consumers,
+        mut rings,
+        mut consumers,
         batches,
         mut rest,
         sheets,
@@ -261,7 +260,7 @@ fn run_known<R: Threads + Wait + Sync, I: Source + Send, S: Sink + Send + Drop>(
         dropped: 0,
         end: DealEnd::Memory,
     };
-    let merged = run_and_empty(
+    run_and_empty(
         rt,
         alloc,
         opened,
@@ -270,12 +269,11 @@ fn run_known<R: Threads + Wait + Sync, I: Source + Send, S: Sink + Send + Drop>(
         ctx_len,
         source,
         late,
-        rings,
-        consumers,
+        &mut rings,
+        &mut consumers,
         batches,
         &mut rest,
         &sheets,
-        merged,
         workers.as_mut_slice(),
         options,
         &mut dealt,
@@ -292,10 +290,10 @@ fn run_known<R: Threads + Wait + Sync, I: Source + Send, S: Sink + Send + Drop>(
             contexts,
             dropped,
             left: total.left,
-            opened: merged,
+            opened: merge(rings, consumers, merged),
         });
     };
-    let rings = close_all(rt, merged, tallies, ended);
+    let rings = close_all(rt, rings, consumers, tallies, ended);
     Ok(StreamReport {
         rings,
         contexts,
