@@ -4,8 +4,8 @@ ghost use Rattle.std.specs.Prelude.{◌≤◌};
 
 use crate::request::{Values, decimal};
 use clap::Error;
-use rb_follow::follow;
 use rb_json::LineForm;
+use rb_tape_commands::follow;
 use std::alloc::Global;
 use std::io::Write;
 use std::rt::Files;

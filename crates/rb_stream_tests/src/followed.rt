@@ -1,11 +1,11 @@
 //! A ring's directory on the file system, written and followed. Records of 16 bytes take 24, so three of them close a segment of 64.
 
-use rb_follow::{FollowRefusal, follow};
 use rb_json::LineForm;
 use rb_segments::{
     DirectoryStore, SegmentFile, SegmentPlan, SegmentWriter, SegmentedRing, enter_ring, mark_end,
 };
 use rb_tape::{Event, Item};
+use rb_tape_commands::{FollowRefusal, follow};
 use std::fs;
 use std::fs::File;
 use std::test::Fail;

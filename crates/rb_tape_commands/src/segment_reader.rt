@@ -2,7 +2,7 @@
 
 ghost use Rattle.std.specs.Prelude.{◌≤◌, length, IfOk};
 
-use crate::place::{NextSegment, next_place};
+use crate::next_segment::{NextSegment, next_place};
 use crate::whole_records::{front_span, whole_length};
 use rb_segments::segment_path;
 use std::alloc::Global;

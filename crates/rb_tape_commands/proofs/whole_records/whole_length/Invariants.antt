@@ -1,5 +1,5 @@
 use Rattle.std.proofs.Common.{◌≤◌, length}
-use Rattle.rb_follow.proofs.whole_records.whole_length.Given as goal
+use Rattle.rb_tape_commands.proofs.whole_records.whole_length.Given as goal
 
 abbrev pub invariant-records : goal.invariant-records
 invariant-records l = length l.rest ≤ length l.bytes

@@ -1,4 +1,4 @@
-//! What comes after the bytes that were read.
+//! The segments of a ring's tape, and what comes after one of them.
 
 use rb_segments::{DirectoryStore, SegmentStore, StoredSegment, marked_end};
 use std::alloc::Global;

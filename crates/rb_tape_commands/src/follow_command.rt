@@ -1,11 +1,12 @@
-//! The command.
+//! The command `follow`: prints the records of a ring's segments, also while a host writes them.
 
-use crate::place::segments;
+use crate::buffers::tape_buffered;
+use crate::next_segment::segments;
 use crate::segment_reader::SegmentReader;
+use crate::tape_refusal::TapeRefusal;
 use crate::whole_records::front_span;
 use rb_json::LineForm;
 use rb_segments::{DirectoryFault, ring_numbers, segment_path};
-use rb_tape_commands::{TapeRefusal, tape_buffered};
 use std::alloc::Global;
 use std::fs::File;
 use std::io;
@@ -16,7 +17,7 @@ use thiserror::Error as ErrorText;
 /// Why `follow` ended before the end of the tape.
 #[derive(Debug, Drop, ErrorText)]
 pub enum FollowRefusal {
-    /// The folder has no such ring.
+    /// The directory has no such ring.
     #[error("the folder has no such ring")]
     NoRing,
     /// The records at the requested position were deleted. This is the position of the oldest one that is left.
