@@ -19,8 +19,8 @@ use clap::Error;
 use clap::error::ErrorKind;
 use rb_io::{NotedReader, NotedWriter, write_whole};
 use rb_json::LineForm;
-use rb_loader::{Bounds, ProgramFault, explain, explain_portable, read_all};
-use rb_run_commands::{JobsFault, JobsRequest, TapeFile, check, check_portable, run, run_to_file};
+use rb_loader::{ProgramFault, explain, read_all};
+use rb_run_commands::{JobsFault, JobsRequest, TapeFile, check, run};
 use rb_script::{SimFault, line_reason, sim};
 use rb_service::Host;
 use rb_tape_commands::{feed_buffered, tape_buffered};
@@ -241,41 +241,6 @@ fn tell_refusal<W: Write, E: Write>(
     status
 }
 
-// Checks a program, and prints where Linux refuses it if that is requested. The gate (a hook that is called before each
-// helper call) is that of `run`, and reports nothing here.
-fn checked<T: Wait + Clock + Eprint, R: Read, W: Write>(
-    rt: &T,
-    alloc: Global,
-    gate: &Progress<'_, T>,
-    input: &mut R,
-    out: &mut W,
-    bounds: Bounds,
-    form: LineForm,
-    portable: bool,
-) -> Result<(), ProgramFault> {
-    if portable {
-        check_portable(rt, alloc, input, out, bounds, form, gate)
-    } else {
-        check(rt, alloc, input, out, bounds, form, gate)
-    }
-}
-
-// Explains a program, and prints where Linux refuses it if that is requested.
-fn explained<R: Read, W: Write>(
-    alloc: Global,
-    input: &mut R,
-    out: &mut W,
-    bounds: Bounds,
-    form: LineForm,
-    portable: bool,
-) -> Result<(), ProgramFault> {
-    if portable {
-        explain_portable(alloc, input, out, bounds, form)
-    } else {
-        explain(alloc, input, out, bounds, form)
-    }
-}
-
 // Executes a command. Returns where the tape of `feed` ends, or why the command was refused. Leaves the text for
 // standard error, besides the output, in `told`.
 fn answer<T, F: Write + Send + Drop, R: Read, W: Write>(
@@ -305,24 +270,20 @@ where
             bounds,
             form,
             portable,
-        } => of_program(checked(rt, alloc, progress, input, out, bounds, form, portable)),
+        } => of_program(check(rt, alloc, input, out, bounds, form, portable, progress)),
         Subcommand::Explain {
             bounds,
             form,
             portable,
-        } => of_program(explained(alloc, input, out, bounds, form, portable)),
+        } => of_program(explain(alloc, input, out, bounds, form, portable)),
         Subcommand::Cost {
             bounds,
             form,
             sizes,
         } => of_program(cost_with_sizes(alloc, input, out, bounds, form, sizes)),
-        Subcommand::Run { jobs, tape } => {
-            let answer = match tape {
-                None => run(rt, alloc, input, out, told, jobs, progress),
-                Some(path) => run_taped(rt, alloc, input, out, told, jobs, path, progress, seen),
-            };
-            of_jobs(answer)
-        }
+        Subcommand::Run { jobs, tape } => of_jobs(run_reported(
+            rt, alloc, input, out, told, jobs, tape, progress, seen,
+        )),
         Subcommand::Sim { draw, form } => of_sim(sim_told(
             alloc, input, out, progress, draw, form, asked.why, seen,
         )),
@@ -346,23 +307,26 @@ fn tape_metered<T: Clock + Eprint, R: Read, W: Write>(
     }
 }
 
-// Runs jobs and writes their records to the file of this name. Stores what failed at the file.
-fn run_taped<T, F: Write + Send + Drop, R: Read, W: Write>(
+// Runs jobs, with a tape if a file is named. Stores what failed at the file.
+fn run_reported<T, F: Write + Send + Drop, R: Read, W: Write>(
     rt: &T,
     alloc: Global,
     input: &mut R,
     out: &mut W,
     told: &mut Vec<u8>,
     jobs: JobsRequest,
-    path: &str,
+    tape: Option<&str>,
     progress: &Progress<'_, T>,
     seen: &mut Seen,
 ) -> Result<(), JobsFault>
 where
     T: Threads + Wait + Sync + Files<File = F> + Clock + Eprint,
 {
-    let mut file = TapeFile { path, fault: None };
-    let answer = run_to_file(rt, alloc, input, out, told, jobs, &mut file, progress);
+    let mut file = TapeFile {
+        path: tape,
+        fault: None,
+    };
+    let answer = run(rt, alloc, input, out, told, jobs, &mut file, progress);
     seen.file = file.fault;
     answer
 }

@@ -1,6 +1,6 @@
 -- The digits that are kept of a text stand for it, and a text that is not hex stands for one with a byte that is
 -- neither a digit nor white space.
-use Rattle.std.proofs.Common.{◌≡◌, ℕ, ◌+◌, ◌*◌, ◌%◌, ◌<◌, ◌≤◌, ◌⊎◌, inl, inr, Bool, true, false, List, [], ◌∷◌, ◌++◌, length, codes, Option, Some, None, append-nil, append_assoc, refl, sym, ap, subst, ◌∙◌, arith}
+use Rattle.std.proofs.Common.{◌≡◌, ℕ, inl, inr, true, List, [], ◌++◌, codes, Option, Some, None, append-nil, append_assoc, sym, ap, subst, ◌∙◌, arith}
 use Rattle.std.specs.Prelude.{IfSome}
 use Rattle.std.specs.Io.KnownBytes.{Consumes, IsAtEnd}
 use Rattle.std.proofs.KnownBytes.{Consumes-whole}
@@ -8,7 +8,7 @@ use Rattle.std.specs.List.{list_all}
 use Rattle.std.specs.Char.{is_ascii_hexdigit}
 use Rattle.rb_program.specs.Text.{IsHexOf, without_white_space}
 use Rattle.rb_explain.specs.Explanations.{IsNoHex}
-use Rattle.rb_loader.specs.StandIn.{AreTooLong, SpellsLike, StandsFor}
+use Rattle.rb_loader.specs.StandIn.{SpellsLike, StandsFor}
 use Rattle.rb_loader.specs.inner.Digits.{AreManyDigits, KeepsOf, has_odd}
 use Rattle.rb_loader.proofs.DigitLists.{digits_stay, digits_hex, hex_digits, hex_length, odd_text}
 

@@ -1,9 +1,9 @@
 -- A result that is right for a text is right for the input that it stands for.
-use Rattle.std.proofs.Common.{◌≡◌, ◌⊎◌, ℕ, ◌*◌, ◌%◌, ◌<◌, List, [], length, Option, Some, None, Result, Ok, Err, refl, sym, ap, subst, ◌∙◌, arith, inl, inr}
+use Rattle.std.proofs.Common.{◌≡◌, ℕ, Bool, true, false, List, length, Option, Some, None, Result, Ok, Err, sym, ap, subst, ◌∙◌, arith, inl, inr}
 use Rattle.std.specs.Prelude.{IfErr, IfOk, IfSome}
 use Rattle.rb_insn.specs.declared.insn.Insn.{Insn}
 use Rattle.rb_insn.specs.Spelling.{SpellsAll}
-use Rattle.rb_program.specs.FirstDecodeFault.{HasBadLength, HasTooManyUnits, IsFirstFaultAt}
+use Rattle.rb_program.specs.FirstDecodeFault.{HasBadLength, IsFirstFaultAt}
 use Rattle.rb_program.specs.Program.{IsProgram}
 use Rattle.rb_program.specs.Text.{IsHexOf, without_white_space}
 use Rattle.rb_program.specs.declared.fault.DecodeKind.{DecodeKind}
@@ -16,7 +16,8 @@ use Rattle.rb_json.specs.declared.form.LineForm.{LineForm}
 use Rattle.rb_verifier.specs.Subject.{Subject}
 use Rattle.rb_verifier.specs.declared.limits.Limits.{Limits}
 use Rattle.rb_loader.specs.Acceptance.{IsAccepted, IsRightFault}
-use Rattle.rb_loader.specs.PortableExplanation.{ExplainsAccepted}
+use Rattle.rb_loader.specs.Explained.{ExplainsAccepted}
+use Rattle.rb_loader.specs.RequestedFindings.{TellsRequested}
 use Rattle.rb_loader.specs.StandIn.{AreTooLong, StandsFor}
 use Rattle.rb_loader.specs.declared.program.ProgramFault.{ProgramFault}
 use Rattle.rb_loader.specs.declared.program.ProgramFault.TheVariants.{Text, Decode, Shape, Verify, Memory, Device}
@@ -121,14 +122,18 @@ module _ (input text : List ℕ) (stands : StandsFor input text) where
   explained form limits (Some (reasons.Shape fault)) told e = (e.0, program_hex e.2.0 e.0 e.1 e.2.1.spelled e.2.1.bounds, e.2)
   explained form limits (Some (reasons.Rule unit rule)) told e = (e.0, program_hex e.2.0 e.0 e.1 e.2.1.program_of.spelled e.2.1.program_of.bounds, e.2)
 
-  pub portably : (form : LineForm) (limits : Limits) (told : List ℕ) → ExplainsAccepted form text limits told → ExplainsAccepted form input limits told
-  portably form limits told e = record {
-    subject = e.subject;
-    accepted = accepted limits.ctx_len limits.rings e.subject e.accepted;
+  pub requested : (portable : Bool) (form : LineForm) (ctx_len rings : ℕ) (lines : List ℕ) → TellsRequested portable form text ctx_len rings lines
+      → TellsRequested portable form input ctx_len rings lines
+  requested false form ctx_len rings lines found = found
+  requested true form ctx_len rings lines found = (found.0, accepted ctx_len rings found.0 found.1, found.2)
+
+  pub accepted_explained : (portable : Bool) (form : LineForm) (limits : Limits) (told : List ℕ) → ExplainsAccepted portable form text limits told
+      → ExplainsAccepted portable form input limits told
+  accepted_explained portable form limits told e = record {
     explanation = e.explanation;
     explained = explained form limits None e.explanation e.explained;
-    lines = e.lines;
-    found = e.found;
+    findings = e.findings;
+    found = requested portable form limits.ctx_len limits.rings e.findings e.found;
     told_is = e.told_is;
   }
 

@@ -2,6 +2,6 @@ pub mod Acceptance
 pub mod CostCommand
 pub mod Explained
 pub mod MachineFaults
-pub mod PortableExplanation
+pub mod RequestedFindings
 pub mod StandIn
 pub mod inner

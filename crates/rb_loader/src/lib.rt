@@ -11,11 +11,11 @@ mod cost_command;
 mod digits;
 mod explain_command;
 mod input_text;
-mod portable_command;
+mod portable_findings;
 mod program;
 
 pub use cost_command::cost;
 pub use explain_command::explain;
 pub use input_text::read_text;
-pub use portable_command::explain_portable;
+pub use portable_findings::requested_findings;
 pub use program::{Bounds, ProgramFault, accept, read_all, read_program};

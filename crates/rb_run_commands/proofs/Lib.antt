@@ -5,5 +5,6 @@ mod CheckPrinting
 mod Sizes
 mod Printing
 mod Running
+mod RunOutputs
 pub mod TapeGiven
 mod WorkerTasks

@@ -1,30 +1,27 @@
 -- A run over one newly opened ring.
-use Rattle.std.proofs.Common.{◌≡◌, ◌≤◌, ℕ, false, List, Result, Ok, Err, arith, [], ◌∷◌, length, map, sym, ◌∙◌, subst, inr}
+use Rattle.std.proofs.Common.{◌≡◌, ℕ, false, List, [], ◌∷◌, length, map, refl, sym, ap, subst}
 use Rattle.std.specs.Prelude.{All}
-use Rattle.std.specs.Result.{OkIff, result_unwrap_or}
 use Rattle.std.proofs.lemmas.List.Elements.{All-nil, All-cons}
 use Rattle.rb_jobs.specs.Jobs.{task_of}
 use Rattle.rb_jobs.specs.declared.job.Job.{Job}
 use Rattle.rb_chapter_ring.specs.Chapters.{empty_chapter}
 use Rattle.rb_ledger.specs.ChapterSeats.{fresh_chapter_consumer}
-use Rattle.rb_ledger.specs.Seats.{HasSettledAll, fresh_book, fresh_seats}
+use Rattle.rb_ledger.specs.Seats.{HasSettledAll, WorkerSeat, fresh_book, fresh_seats}
 use Rattle.rb_verifier.specs.Subject.{Subject}
+use Rattle.rb_workers.specs.declared.opened.Ended.{Ended}
 use Rattle.rb_workers.specs.declared.opened.Opened.{Opened}
 use Rattle.rb_workers.specs.ChapterSizes.{margin_of, room_of}
 use Rattle.rb_workers.specs.Opened.{IsOpened, AreOpened, workers_of}
-use Rattle.rb_workers.specs.Reports.{IsReport}
+use Rattle.rb_workers.specs.Reports.{IsReport, RingEnds, RingsEnd}
 use Rattle.rb_workers.specs.SeatRows.{seat_rows}
 use Rattle.rb_workers.specs.Sink.{SinkItem}
 use Rattle.rb_workers.specs.Settled.{EachSettled, EndsSettled}
 use Rattle.rb_workers.specs.declared.opened.JobsReport.{JobsReport}
 use Rattle.rb_workers.proofs.Numbered.{seats_length}
 use Rattle.rb_workers.proofs.Settling.{settled_together}
-use Rattle.rb_loader.specs.Acceptance.{IsAccepted, IsRightFault}
-use Rattle.rb_run_commands.specs.RunCommand.{IsRightJobsFault, IsRightRingFault, RunsWorkers, first_book}
+use Rattle.rb_run_commands.specs.RunCommand.{RunsWorkers, first_book}
 use Rattle.rb_run_commands.specs.WorkerJobs.{tasks_of_workers}
-use Rattle.rb_run_commands.specs.declared.jobs_fault.JobsFault.{JobsFault}
-use Rattle.rb_run_commands.specs.declared.jobs_fault.JobsFault.TheVariants.{Program, Size, Start, Workers}
-use Rattle.rb_run_commands.specs.declared.run_command.JobsRequest.{JobsRequest}
+use Rattle.rb_run_commands.specs.declared.jobs_request.JobsRequest.{JobsRequest}
 
 module _ {S : Type 0} (position : S → ℕ) (workers : ℕ) (one : Opened S) (opened : List (Opened S)) (is : opened ≡ one ∷ []) (is_opened : IsOpened position workers one) where
   -- the ring may be run
@@ -72,7 +69,16 @@ module _ {S : Type 0} (position : S → ℕ) (takes : S → SinkItem → S → T
     settled = settled (one_settled one opened is nothing_made);
   }
 
--- a small number is unchanged by the cut to 32 bits
-pub same_number : {E : Type 0} (cut : Result ℕ E) (Fits : Type 0) (whole got : ℕ) → OkIff cut Fits whole → got ≡ result_unwrap_or cut 4294967295 → got ≤ 256 → got ≡ whole
-same_number (Ok n) Fits whole got is unwrapped few = unwrapped ∙ is.1
-same_number (Err e) Fits whole got is unwrapped few = let most : got ≡ 4294967295 = unwrapped in absurd (omega (arith, most, few))
+-- one ring was opened, so one was closed
+pub one_ended : {S : Type 0} (position : S → ℕ) (takes : S → SinkItem → S → Type 0) (o : Opened S) (es : List (Ended S)) (seats : List (List WorkerSeat)) → RingsEnd position takes (o ∷ []) es seats
+    → (e : Ended S) × (row : List WorkerSeat) × (es ≡ e ∷ []) × RingEnds position takes o e row
+one_ended position takes o [] seats ends = absurd ends
+one_ended position takes o (e ∷ es) [] ends = absurd ends
+one_ended position takes o (e ∷ []) (row ∷ []) ends = (e, row, refl, ends.0)
+one_ended position takes o (e ∷ []) (row ∷ other ∷ more) ends = absurd ends.1
+one_ended position takes o (e ∷ other ∷ es) (row ∷ []) ends = absurd ends.1
+one_ended position takes o (e ∷ other ∷ es) (row ∷ next ∷ more) ends = absurd ends.1
+
+pub one_ring : {S : Type 0} (position : S → ℕ) (takes : S → SinkItem → S → Type 0) (sink : S) (subject : Subject) (request : JobsRequest) (report : JobsReport S) → RunsWorkers position takes sink subject request report
+    → length report.rings.items ≡ 1
+one_ring position takes sink subject request report ran = ap length (one_ended position takes ran.opened report.rings.items ran.reported.seats ran.reported.rings_end).2

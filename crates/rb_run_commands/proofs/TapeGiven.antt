@@ -21,8 +21,9 @@ use Rattle.rb_workers.specs.declared.opened.Opened.{Opened}
 use Rattle.rb_workers.specs.declared.opened.JobsReport.{JobsReport}
 use Rattle.rb_ledger.specs.Seats.{WorkerSeat}
 use Rattle.rb_run_commands.specs.RunCommand.{RunsWorkers}
+use Rattle.rb_run_commands.proofs.Running.{one_ended}
 use Rattle.rb_run_commands.specs.TapedRun.{SinkTape, TapesRing, WritesOn, first_tape, sink_tape_items, tape_position, tape_takes}
-use Rattle.rb_run_commands.specs.declared.run_command.JobsRequest.{JobsRequest}
+use Rattle.rb_run_commands.specs.declared.jobs_request.JobsRequest.{JobsRequest}
 
 front_empty : (xs ys : List ℕ) → xs ++ ys ≡ [] → xs ≡ []
 front_empty [] ys e = refl
@@ -179,16 +180,6 @@ module _ {W : Type 0} (contents : W → Option (List ℕ)) where
 
 -- ---- the run
 
--- one ring was opened, so one was closed
-pub one_ended : {S : Type 0} (position : S → ℕ) (takes : S → SinkItem → S → Type 0) (o : Opened S) (es : List (Ended S)) (seats : List (List WorkerSeat)) → RingsEnd position takes (o ∷ []) es seats
-    → (e : Ended S) × (row : List WorkerSeat) × (es ≡ e ∷ []) × RingEnds position takes o e row
-one_ended position takes o [] seats ends = absurd ends
-one_ended position takes o (e ∷ es) [] ends = absurd ends
-one_ended position takes o (e ∷ []) (row ∷ []) ends = (e, row, refl, ends.0)
-one_ended position takes o (e ∷ []) (row ∷ other ∷ more) ends = absurd ends.1
-one_ended position takes o (e ∷ other ∷ es) (row ∷ []) ends = absurd ends.1
-one_ended position takes o (e ∷ other ∷ es) (row ∷ next ∷ more) ends = absurd ends.1
-
 last_of_one : {A : Type 0} (front : List A) (x y : A) → x ∷ [] ≡ front ++ y ∷ [] → y ≡ x
 last_of_one [] x y e = cc
 last_of_one (z ∷ []) x y e = absurd (let l = ap length e in omega (arith, l))
@@ -212,9 +203,6 @@ by_part (inr b) f = inr b
 module _ {W : Type 0} (contents : W → Option (List ℕ)) (writes_out : W → Bool → W → Type 0) (writer left : W) (subject : Subject) (request : JobsRequest) (report : JobsReport (SinkTape W)) (ran : RunsWorkers tape_position (tape_takes contents writes_out) (first_tape writer request) subject request report) where
   ending : (e : Ended (SinkTape W)) × (row : List WorkerSeat) × (report.rings.items ≡ e ∷ []) × RingEnds tape_position (tape_takes contents writes_out) ran.opened e row
   ending = one_ended tape_position (tape_takes contents writes_out) ran.opened report.rings.items ran.reported.seats ran.reported.rings_end
-
-  pub one_ring : length report.rings.items ≡ 1
-  one_ring = ap length ending.2
 
   -- what the sink of the ring taken out of the report wrote
   pub ring_taped : (front : List (Ended (SinkTape W))) (ended : Ended (SinkTape W)) (whole handed_out : Bool) → report.rings.items ≡ front ++ ended ∷ []

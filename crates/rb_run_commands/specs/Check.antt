@@ -1,6 +1,6 @@
 -- What `check` does with the text of a program: it runs the program over fresh rings, and prints its result and the
 -- records that it left in them (own).
-use Rattle.std.specs.Prelude.{ℕ, List, map, replicate, Option, Result, Ok}
+use Rattle.std.specs.Prelude.{ℕ, Bool, List, ◌++◌, map, replicate, Option, Result, Ok}
 use Rattle.std.specs.Io.KnownBytes.{Appends}
 use Rattle.rb_history.specs.declared.answers.Taken.{Taken}
 use Rattle.rb_interp.specs.declared.fault.RunFault.{RunFault}
@@ -8,6 +8,7 @@ use Rattle.rb_jobs.specs.Jobs.{Task, JobRan}
 use Rattle.rb_ledger.specs.Seats.{Shared, WorkerSeat}
 use Rattle.rb_verifier.specs.Subject.{Subject}
 use Rattle.rb_loader.specs.Acceptance.{IsAccepted}
+use Rattle.rb_loader.specs.RequestedFindings.{TellsRequested}
 use Rattle.rb_run_commands.specs.DrainedRings.{DrainsRings}
 use Rattle.rb_run_commands.specs.FreshRings.{AreNumbered, fresh_worker, fresh_taker}
 use Rattle.rb_run_commands.specs.Printed.{check_lines}
@@ -40,9 +41,12 @@ pub record Checks (text : List ℕ) (ctx_len ring_count value : ℕ) (records : 
   pub ran : RunsText text ctx_len ring_count (Ok value) rings seats
   pub drained : DrainsRings seats (map fresh_taker rings) records
 
--- the program of the input was checked, and exactly the output of `check` for it was printed
-pub record PrintsCheck (input : List ℕ) (ctx_len ring_count : ℕ) (form : LineForm) (before after : Option (List ℕ)) : Type 0 where
+-- the program of the input was checked, and exactly the output of `check` for it was printed, followed by the lines of
+-- the units that Linux refuses if they are requested
+pub record PrintsCheck (portable : Bool) (input : List ℕ) (ctx_len ring_count : ℕ) (form : LineForm) (before after : Option (List ℕ)) : Type 0 where
   pub value : ℕ
   pub records : List (List Taken)
   pub checked : Checks input ctx_len ring_count value records
-  pub printed : Appends before after (check_lines form value records)
+  pub findings : List ℕ
+  pub found : TellsRequested portable form input ctx_len ring_count findings
+  pub printed : Appends before after (check_lines form value records ++ findings)

@@ -7,4 +7,3 @@ pub mod RunCommand
 pub mod TapedRun
 pub mod WorkerJobs
 pub mod inner
-pub mod PortableCheck

@@ -1,6 +1,6 @@
 -- What `run` does with the text of a program: its workers run it as jobs over a newly opened ring, and it prints the
 -- report (own).
-use Rattle.std.specs.Prelude.{◌≡◌, ◌+◌, ℕ, false, All, List, [], ◌∷◌, map, Option, IfSome}
+use Rattle.std.specs.Prelude.{◌≡◌, ◌+◌, ℕ, false, All, List, [], ◌∷◌, map, Option}
 use Rattle.std.specs.Io.KnownBytes.{Appends}
 use Rattle.rb_history.specs.RingModel.{IsRingSize, IsStartPosition, IsWorkerCount}
 use Rattle.rb_chapter_ring.specs.Chapters.{empty_chapter}
@@ -23,10 +23,15 @@ use Rattle.rb_run_commands.specs.WorkerJobs.{tasks_of_workers}
 use Rattle.rb_run_commands.specs.declared.jobs_fault.JobsFault.{JobsFault}
 use Rattle.rb_run_commands.specs.declared.jobs_fault.JobsFault.TheVariants.{Program, Size, Start, Workers}
 use Rattle.rb_loader.specs.declared.program.ProgramFault.TheVariants.{Memory}
-use Rattle.rb_run_commands.specs.declared.run_command.JobsRequest.{JobsRequest}
+use Rattle.rb_run_commands.specs.declared.jobs_request.JobsRequest.{JobsRequest}
 use Rattle.rb_workers.specs.declared.null_sink.NullSink.{NullSink}
 
 -- ---- the run
+
+-- a run that can begin: its program, and what is requested of it
+pub record RunPlan : Type 0 where
+  pub program : Subject
+  pub request : JobsRequest
 
 -- the position of a sink that discards its records
 abbrev pub null_position : NullSink → ℕ
@@ -69,14 +74,11 @@ pub record RunsWorkers {S : Type 0} (position : S → ℕ) (takes : S → SinkIt
 
 -- ---- what is printed
 
--- A program was run in this way for contexts of 16 bytes and one ring: the input's program, if the input is known.
--- Exactly the report was printed. Exactly the number of reservations and outputs that are neither granted nor refused
--- in the ring's history was reported besides.
-pub record PrintsRun (input : Option (List ℕ)) (request : JobsRequest) (before after told_before told_after : Option (List ℕ)) : Type 0 where
-  pub subject : Subject
-  pub report : JobsReport NullSink
-  pub accepted : IfSome input (λ text. IsAccepted text 16 1 subject)
-  pub ran : RunsWorkers null_position null_takes (first_null request) subject request report
+-- The program was run with this sink, and exactly the report was printed. Exactly the number of reservations and outputs
+-- that are neither granted nor refused in the ring's history was reported besides.
+pub record PrintsReport {S : Type 0} (position : S → ℕ) (takes : S → SinkItem → S → Type 0) (sink : S) (subject : Subject) (request : JobsRequest) (before after told_before told_after : Option (List ℕ)) : Type 0 where
+  pub report : JobsReport S
+  pub ran : RunsWorkers position takes sink subject request report
   pub printed : Appends before after (report_lines request.form report)
   pub told : Appends told_before told_after (unlogged_text report.unlogged)
 

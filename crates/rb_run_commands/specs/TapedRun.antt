@@ -12,12 +12,10 @@ use Rattle.rb_tape.specs.Items.{tape_items}
 use Rattle.rb_workers.specs.Sink.{SinkItem, IsRecordIn, positions_among, records_among, takes_in}
 use Rattle.rb_workers.specs.Sink.SinkItem.{Record, Chapter, CaughtUp}
 use Rattle.rb_workers.specs.declared.opened.Ended.{Ended}
-use Rattle.rb_workers.specs.declared.opened.JobsReport.{JobsReport}
 use Rattle.rb_loader.specs.Acceptance.{IsAccepted}
-use Rattle.rb_run_commands.specs.ReportLines.{report_lines, unlogged_text}
-use Rattle.rb_run_commands.specs.RunCommand.{RunsWorkers}
+use Rattle.rb_run_commands.specs.RunCommand.{PrintsReport, first_null, null_position, null_takes}
 use Rattle.rb_io.specs.Gathered.{Gathered, HandsOn}
-use Rattle.rb_run_commands.specs.declared.run_command.JobsRequest.{JobsRequest}
+use Rattle.rb_run_commands.specs.declared.jobs_request.JobsRequest.{JobsRequest}
 
 -- ---- the sink
 
@@ -90,21 +88,29 @@ pub record TapesRing {W : Type 0} (contents : W → Option (List ℕ)) (writes_o
   pub all_out : whole ≡ true → (missing ≡ []) × (handed_out ≡ true)
   pub not_all_out : whole ≡ false → (missing ≢ []) ⊎ (handed_out ≡ false)
 
--- the program was run with such a sink, exactly the report was printed, exactly the unlogged calls were reported, and
--- what the ring's consumer took was written as a tape
+-- the program was run with such a sink, its report was printed, and what the ring's consumer took was written as a tape
 pub record TapesRun {W : Type 0} (contents : W → Option (List ℕ)) (writes_out : W → Bool → W → Type 0) (writer : W) (subject : Subject) (request : JobsRequest) (before after told_before told_after : Option (List ℕ)) (whole : Bool) (left : W) : Type 0 where
-  pub report : JobsReport (SinkTape W)
-  pub ran : RunsWorkers tape_position (tape_takes contents writes_out) (first_tape writer request) subject request report
-  pub printed : Appends before after (report_lines request.form report)
-  pub told : Appends told_before told_after (unlogged_text report.unlogged)
-  pub taped : All (TapesRing contents writes_out request.size whole writer left) report.rings.items
+  pub printed : PrintsReport tape_position (tape_takes contents writes_out) (first_tape writer request) subject request before after told_before told_after
+  pub taped : All (TapesRing contents writes_out request.size whole writer left) printed.report.rings.items
 
--- A program was run in this way: the input's program, if the input is known. All of its tape went through a buffer, in
--- which nothing is left, to a writer whose bytes are unknown.
-pub record PrintsTaped (F : Type 0) (contents : F → Option (List ℕ)) (input : Option (List ℕ)) (request : JobsRequest) (before after told_before told_after : Option (List ℕ)) : Type 0 where
-  pub subject : Subject
-  pub accepted : IfSome input (λ text. IsAccepted text 16 1 subject)
+-- the program was run in this way; all of its tape went through a buffer, in which nothing is left, to a writer whose
+-- bytes are unknown
+pub record TapesWhole (F : Type 0) (contents : F → Option (List ℕ)) (subject : Subject) (request : JobsRequest) (before after told_before told_after : Option (List ℕ)) : Type 0 where
   pub writer : Gathered F
   pub left : Gathered F
   pub taped : TapesRun (λ b. append_known (contents b.writer) b.waiting) (HandsOn contents) writer subject request before after told_before told_after true left
   pub handed_on : left.waiting ≡ []
+
+-- ---- the command
+
+-- the program was run, and its report was printed: over a sink that drops the records, or, if a tape is requested, with
+-- one
+abbrev pub RunsProgram : (F : Type 0) → (F → Option (List ℕ)) → Bool → Subject → JobsRequest → Option (List ℕ) → Option (List ℕ) → Option (List ℕ) → Option (List ℕ) → Type 0
+RunsProgram F contents false subject request before after told_before told_after = PrintsReport null_position null_takes (first_null request) subject request before after told_before told_after
+RunsProgram F contents true subject request before after told_before told_after = TapesWhole F contents subject request before after told_before told_after
+
+-- a program was run for contexts of 16 bytes and one ring: the input's program, if the input is known
+pub record PrintsRun (F : Type 0) (contents : F → Option (List ℕ)) (is_taped : Bool) (input : Option (List ℕ)) (request : JobsRequest) (before after told_before told_after : Option (List ℕ)) : Type 0 where
+  pub subject : Subject
+  pub accepted : IfSome input (λ text. IsAccepted text 16 1 subject)
+  pub ran : RunsProgram F contents is_taped subject request before after told_before told_after

@@ -7,14 +7,14 @@ ghost use Rattle.rb_loader.specs.Acceptance.{IsRightFault};
 ghost use Rattle.rb_run_commands.specs.Check.{Checks, PrintsCheck, RunsOnce};
 
 use crate::check_lines::lines_of_check;
-use crate::drain::drain_rings;
+use crate::drained_rings::drain_rings;
 use crate::fresh_rings::{Fresh, fresh_rings};
 use crossbeam_queue::ArrayQueue;
 use rb_history::Taken;
 use rb_io::write_whole;
 use rb_jobs::{Gate, Job, run_job};
 use rb_json::LineForm;
-use rb_loader::{Bounds, ProgramFault, accept, read_text};
+use rb_loader::{Bounds, ProgramFault, accept, read_text, requested_findings};
 use rb_shared_ring::{Seat, SharedRing};
 use rb_verifier::Verified;
 use rb_workers::used_sheets::UsedSheets;
@@ -32,8 +32,9 @@ pub struct Checked {
 }
 
 /// Verifies the program whose text is the input, and runs it once over fresh rings of 4,096 bytes with a context of
-/// zeros. Prints `accepted`, the result, and a line for each record that it left, in this form. The text is read as by
-/// `read_text`. The gate is called before each helper call.
+/// zeros. Prints `accepted`, the result, and a line for each record that it left, in this form; if `portable`, also a
+/// line for each unit at which Linux refuses the program. The text is read as by `read_text`. The gate is called before
+/// each helper call.
 ///
 /// If the program is refused or memory runs out, nothing is printed.
 pub fn check<T: Wait, R: Read, W: Write, G: Gate>(
@@ -43,16 +44,19 @@ pub fn check<T: Wait, R: Read, W: Write, G: Gate>(
     out: &mut W,
     bounds: Bounds,
     form: LineForm,
+    portable: bool,
     gate: &G,
 ) -> Result<(), ProgramFault>
-    ensures printed { OnOk result (IfSome (R.remaining input.old) (λ text. PrintsCheck text bounds.ctx_len bounds.rings form (W.contents out.old) (W.contents out.new))) }
+    ensures printed { OnOk result (IfSome (R.remaining input.old) (λ text. PrintsCheck portable text bounds.ctx_len bounds.rings form (W.contents out.old) (W.contents out.new))) }
     ensures refused { IfErr result (λ fault. IfSome (R.remaining input.old) (λ text. IsRightFault text bounds.ctx_len bounds.rings fault)) }
     ensures nothing_printed { IfErr result (λ fault. fault ≢ ProgramFault.Device → Keeps (W.contents out.old) (W.contents out.new)) }
 {
     let text = read_text(alloc, input)?;
     let text = text.as_str();
     let Checked { value, records } = check_text(rt, alloc, text, bounds, gate)?;
-    let printed = lines_of_check(alloc, value, records.as_slice(), form)?;
+    let findings = requested_findings(alloc, text, bounds, form, portable)?;
+    let mut printed = lines_of_check(alloc, value, records.as_slice(), form)?;
+    printed.extend_from_slice(findings.as_bytes())?;
     match write_whole(out, printed.as_slice()) {
         Ok(()) => Ok(()),
         Err(_) => Err(ProgramFault::Device),

@@ -3,8 +3,8 @@
 ghost use Rattle.std.specs.Prelude.{◌≡◌, IfOk, map};
 ghost use Rattle.rb_run_commands.specs.Printed.{check_lines};
 
+use crate::record_json::objects_of_run;
 use crate::record_lines::text_of_run;
-use crate::record_objects::objects_of_run;
 use rb_history::Taken;
 use rb_json::LineForm;
 use std::alloc::{AllocError, Global};

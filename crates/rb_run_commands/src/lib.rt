@@ -1,6 +1,6 @@
 //! The commands that run a verified program. `check` runs it once over fresh rings and prints the records that it left.
-//! `run` runs it as jobs on threads over a fresh ring. `run --tape` also writes what the ring's consumer took as a
-//! tape.
+//! `run` runs it as jobs on threads over a fresh ring, and on request writes what the ring's consumer took as a tape.
+//! Both are runs over a sink: `PlannedRun` runs the jobs over any.
 //!
 //! For `rbhost`, and for embedding over other readers and writers. The contracts promise that each result follows from
 //! the program's semantics (RFC 9669) and the answers of these rings, that the records that `check` prints are those
@@ -10,7 +10,7 @@
 //! ```text
 //! let bounds = Bounds { ctx_len: 0, rings: 1 };
 //! // The input is the hex of a program that submits 42 and exits with 0.
-//! check(rt, alloc, &mut input, &mut out, bounds, LineForm::Words, &OpenGate)?;
+//! check(rt, alloc, &mut input, &mut out, bounds, LineForm::Words, false, &OpenGate)?;
 //! // accepted
 //! // result 0
 //! // ring 0 pos 0 worker 0 serial 0 len 8 2a00000000000000
@@ -19,26 +19,28 @@
 
 mod check_command;
 mod check_lines;
-mod drain;
+mod drained_rings;
 mod fresh_rings;
 mod jobs_fault;
-mod portable_check;
+mod jobs_request;
+mod planned_run;
+mod record_json;
 mod record_lines;
-mod record_objects;
 mod report;
+mod report_json;
 mod report_lines;
-mod report_objects;
 mod run_command;
 mod tape_sink;
 mod tape_watch;
-mod taped_run;
 mod worker_jobs;
+mod written_tape;
 
 pub use check_command::{Checked, check, check_text};
 pub use jobs_fault::JobsFault;
-pub use portable_check::check_portable;
+pub use jobs_request::JobsRequest;
+pub use planned_run::PlannedRun;
 pub use report_lines::push_records;
-pub use run_command::{JOB_BOUNDS, JobsRequest, check_ring, run};
+pub use run_command::{TapeFile, TapeFileFault, run};
 pub use tape_sink::TapeSink;
 pub use tape_watch::TapeWatch;
-pub use taped_run::{TapeFile, TapeFileFault, WrittenTape, run_taped, run_to_file};
+pub use written_tape::{WrittenTape, finish_tape};

@@ -3,8 +3,8 @@
 ghost use Rattle.std.specs.Prelude.{◌≡◌, IfOk};
 ghost use Rattle.rb_run_commands.specs.ReportLines.{report_lines};
 
+use crate::report_json::objects_of_report;
 use crate::report_lines::text_of_report;
-use crate::report_objects::objects_of_report;
 use rb_json::LineForm;
 use rb_workers::JobsReport;
 use std::alloc::{AllocError, Global};

@@ -18,6 +18,7 @@ pub(crate) fn text_of_report<S>(alloc: Global, report: &JobsReport<S>) -> Result
     for ended in &report.rings {
         push_ended(&mut text, ended)?;
     }
+    // 0 in each report of `run_jobs`, by its clause `no_strays`.
     writeln!(text, "strays {}", report.strays)?;
     Ok(text)
 }

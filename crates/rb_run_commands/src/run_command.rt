@@ -1,220 +1,116 @@
-//! Runs a program from its text as jobs on threads over one ring.
+//! The command `run`: runs a program from its text as jobs on threads over one ring, on request with a tape.
 
-ghost use Rattle.std.specs.Prelude.{◌≡◌, ◌≢◌, ◌⊎◌, [], ◌∷◌, vec_len, map, IfErr, IfOk, IfSome, OnOk};
-ghost use Rattle.std.specs.Io.KnownBytes.{Appends, Keeps};
+ghost use Rattle.std.specs.Prelude.{◌≡◌, ◌≢◌, IfErr, IfSome, OnOk, is_some};
+ghost use Rattle.std.specs.Io.KnownBytes.{Keeps};
 ghost use Rattle.rb_history.specs.RingModel.{IsRingSize, IsStartPosition, IsWorkerCount};
-ghost use Rattle.rb_jobs.specs.Jobs.{task_of};
-ghost use Rattle.rb_run_commands.specs.WorkerJobs.{tasks_of_workers};
-ghost use Rattle.rb_run_commands.specs.ReportLines.{report_lines, unlogged_text};
-ghost use Rattle.rb_run_commands.specs.RunCommand.{IsRightJobsFault, IsRightRingFault, PrintsRun, RunsWorkers};
-ghost use Rattle.rb_run_commands.specs.inner.OpeningFaults.{fault_of_opening};
+ghost use Rattle.rb_loader.specs.MachineFaults.{IsMachineFault};
+ghost use Rattle.rb_run_commands.specs.RunCommand.{IsRightJobsFault};
+ghost use Rattle.rb_run_commands.specs.TapedRun.{PrintsRun, TapesWhole};
 
 use crate::jobs_fault::JobsFault;
-use crate::report::lines_of_report;
-use crate::report_lines::text_of_unlogged;
-use crate::worker_jobs::{CONTEXT, contexts_of, jobs_of};
-use rb_history::{SetupFault, check_setup};
-use rb_io::write_whole;
-use rb_json::LineForm;
-use rb_loader::{Bounds, ProgramFault, read_program};
-use rb_shared_ring::OpenFault;
-use rb_verifier::Verified;
-use rb_workers::{
-    Gate, Job, JobFault, JobsReport, NullSink, Opened, Sink, chapter_margin, chapter_room, run_jobs,
-};
-use std::alloc::{AllocError, Global};
-use std::io::{Read, Write};
+use crate::jobs_request::JobsRequest;
+use crate::planned_run::PlannedRun;
+use crate::tape_watch::TapeWatch;
+use crate::written_tape::finish_tape;
+use rb_io::{Buffered, NotedWriter};
+use rb_loader::ProgramFault;
+use rb_workers::{Gate, NullSink};
+use std::alloc::Global;
+use std::fs::File;
+use std::io::{Error, Read, Write};
+use std::rt::Files;
 use std::sync::Wait;
 use std::thread::Threads;
 
-/// The limits that a program of jobs is verified for: contexts of 16 bytes and one ring.
-pub const JOB_BOUNDS: Bounds = Bounds {
-    ctx_len: CONTEXT as u32,
-    rings: 1,
-};
-
-/// The jobs to run, the ring to run them over, and the form of the output.
-#[derive(Clone, Copy, Debug, PartialEq, Eq)]
-pub struct JobsRequest {
-    /// The number of workers.
-    pub workers: u64,
-    /// The number of times that each worker runs the program.
-    pub jobs: u32,
-    /// The ring's size in bytes.
-    pub size: u64,
-    /// The ring's first position.
-    pub start: u64,
-    /// The form in which the report is printed.
-    pub form: LineForm,
+/// What failed at the file of a tape, with the system's error if it reported one.
+#[derive(Clone, Copy)]
+pub enum TapeFileFault {
+    /// The file could not be created, or opened for writing.
+    Opening(Error),
+    /// A write failed, or wrote nothing.
+    Writing(Option<Error>),
 }
 
-/// Verifies the program whose text is the input, for one ring and contexts of 16 bytes. Runs it `jobs` times on each
-/// worker, each worker on its own thread, over one ring. A job's context is the worker's number followed by the job's
-/// number, each in eight bytes, little-endian. When all workers have ended, prints each seat's counts and the closed
-/// ring's counts, and reports on `err` how many reservations and outputs are unlogged, if any are. The gate is called
-/// before each helper call.
+/// The file of a run's tape.
+#[derive(Clone, Copy)]
+pub struct TapeFile<'a> {
+    /// Its name, or `None` if no tape is written.
+    pub path: Option<&'a str>,
+    /// What failed there.
+    pub fault: Option<TapeFileFault>,
+}
+
+/// Runs the program whose text is the input, as `PlannedRun` does. If the file has a name, writes what the ring's
+/// consumer took to it as a tape, each record as it is taken; otherwise, the records are dropped.
 ///
-/// Input that is not UTF-8 is refused as `Text`. Refusals of the program come before those of size, start and workers.
-/// If the program or the ring is refused or memory runs out, nothing is printed or reported. Returns `Device` if the
-/// output was not written whole.
-pub fn run<T: Threads + Wait + Sync, R: Read, W: Write, E: Write, G: Gate + Sync>(
+/// The file is created, or truncated if it exists, after all refusals of the program and the ring and before anything
+/// runs. A write that fails or writes nothing ends the tape, but not the run. Returns `Device` if the file cannot be
+/// opened, or, after the output was printed, if the tape was not written whole; `file` then contains what failed there.
+/// The gate is also called each time the tape was flushed.
+pub fn run<T, R: Read, W: Write, E: Write, F: Write + Send + Drop, G: Gate + TapeWatch + Sync>(
     rt: &T,
     alloc: Global,
     input: &mut R,
     out: &mut W,
     err: &mut E,
     request: JobsRequest,
+    file: &mut TapeFile<'_>,
     gate: &G,
 ) -> Result<(), JobsFault>
-    ensures printed { OnOk result (PrintsRun (R.remaining input.old) request (W.contents out.old) (W.contents out.new) (E.contents err.old) (E.contents err.new)) }
+where
+    T: Threads + Wait + Sync + Files<File = F>,
+    ensures printed { OnOk result (PrintsRun F F.contents (is_some file.old.path) (R.remaining input.old) request (W.contents out.old) (W.contents out.new) (E.contents err.old) (E.contents err.new)) }
     ensures bounds { OnOk result (IsRingSize request.size × IsStartPosition request.start × IsWorkerCount request.workers) }
     ensures refused { IfErr result (λ fault. IfSome (R.remaining input.old) (λ text. IsRightJobsFault text request fault)) }
-    ensures nothing_printed { IfErr result (λ fault. fault ≢ JobsFault.Program ProgramFault.Device → Keeps (W.contents out.old) (W.contents out.new)) }
-    ensures nothing_told { IfErr result (λ fault. fault ≢ JobsFault.Program ProgramFault.Device → Keeps (E.contents err.old) (E.contents err.new)) }
+    ensures nothing_written { IfErr result (λ fault. fault ≢ JobsFault.Program ProgramFault.Device → Keeps (W.contents out.old) (W.contents out.new) × Keeps (E.contents err.old) (E.contents err.new)) }
 {
-    let program = read_program(alloc, input, JOB_BOUNDS)?;
-    let workers = check_ring(request)?;
-    let contexts = contexts_of(alloc, workers, request.jobs)?;
-    let jobs = jobs_of(alloc, &program, contexts.as_slice())?;
-    let sink = NullSink {
-        position: request.start,
-    };
-    match run_and_print(
-        rt,
-        alloc,
-        &program,
-        jobs.as_slice(),
-        out,
-        err,
-        request,
-        sink,
-        gate,
-    ) {
-        Ok(_report) => Ok(()),
-        Err(fault) => Err(fault),
+    let planned = PlannedRun::read(alloc, input, request)?;
+    match file.path {
+        None => {
+            let sink = NullSink {
+                position: request.start,
+            };
+            planned.run(rt, alloc, out, err, sink, gate)?;
+            Ok(())
+        }
+        Some(path) => {
+            run_to_file(rt, alloc, &planned, out, err, path, &mut file.fault, gate)?;
+            Ok(())
+        }
     }
 }
 
-/// Runs these jobs of the program and reports unlogged calls as `run` does. What the ring's consumer takes goes to the
-/// sink, which the report returns.
-pub(crate) fn run_and_print<
-    T: Threads + Wait + Sync,
-    W: Write,
-    E: Write,
-    S: Sink + Send + Drop,
-    G: Gate + Sync,
->(
+// Runs the jobs with a tape in the file of this name, and stores what failed at the file.
+fn run_to_file<T, W: Write, E: Write, F: Write + Send + Drop, G: Gate + TapeWatch + Sync>(
     rt: &T,
     alloc: Global,
-    program: &Verified,
-    jobs: &[Job<'_>],
+    planned: &PlannedRun,
     out: &mut W,
     err: &mut E,
-    request: JobsRequest,
-    sink: S,
+    path: &str,
+    fault: &mut Option<TapeFileFault>,
     gate: &G,
-) -> Result<JobsReport<S>, JobsFault>
-    requires one_ring { program.now.rings ≡ 1 }
-    requires tasks { map task_of jobs.now ≡ tasks_of_workers program.now request.workers request.jobs }
-    requires begins { S.position_of sink ≡ request.start }
-    ensures ran { IfOk result (RunsWorkers S.position_of S.takes sink program.now request) }
-    ensures printed { IfOk result (λ report. Appends (W.contents out.old) (W.contents out.new) (report_lines request.form report)) }
-    ensures told { IfOk result (λ report. Appends (E.contents err.old) (E.contents err.new) (unlogged_text report.unlogged)) }
-    ensures bounds { OnOk result (IsRingSize request.size × IsStartPosition request.start × IsWorkerCount request.workers) }
-    ensures refused { IfErr result (λ fault. (fault ≡ JobsFault.Program ProgramFault.Device) ⊎ IsRightRingFault request fault) }
-    ensures nothing_printed { IfErr result (λ fault. fault ≢ JobsFault.Program ProgramFault.Device → Keeps (W.contents out.old) (W.contents out.new)) }
-    ensures nothing_told { IfErr result (λ fault. fault ≢ JobsFault.Program ProgramFault.Device → Keeps (E.contents err.old) (E.contents err.new)) }
+) -> Result<(), ProgramFault>
+where
+    T: Threads + Wait + Sync + Files<File = F>,
+    ensures printed { OnOk result (TapesWhole F F.contents planned.now.program planned.now.request (W.contents out.old) (W.contents out.new) (E.contents err.old) (E.contents err.new)) }
+    ensures refused { IfErr result IsMachineFault }
+    ensures nothing_written { IfErr result (λ fault. fault ≢ ProgramFault.Device → Keeps (W.contents out.old) (W.contents out.new) × Keeps (E.contents err.old) (E.contents err.new)) }
 {
-    let report = run_program(rt, alloc, program, jobs, request, sink, gate)?;
-    let printed = lines_of_report(alloc, &report, request.form)?;
-    let told = text_of_unlogged(alloc, report.unlogged)?;
-    if write_whole(out, printed.as_slice()).is_err() {
-        return Err(JobsFault::Program(ProgramFault::Device));
-    }
-    match write_whole(err, told.as_bytes()) {
-        Ok(()) => Ok(report),
-        Err(_) => Err(JobsFault::Program(ProgramFault::Device)),
-    }
-}
-
-// Runs the program `jobs` times on each worker, over one ring whose records go to the sink as they are taken.
-fn run_program<T: Threads + Wait + Sync, S: Sink + Send + Drop, G: Gate + Sync>(
-    rt: &T,
-    alloc: Global,
-    program: &Verified,
-    jobs: &[Job<'_>],
-    request: JobsRequest,
-    sink: S,
-    gate: &G,
-) -> Result<JobsReport<S>, JobsFault>
-    requires one_ring { program.now.rings ≡ 1 }
-    requires tasks { map task_of jobs.now ≡ tasks_of_workers program.now request.workers request.jobs }
-    requires begins { S.position_of sink ≡ request.start }
-    ensures ran { IfOk result (RunsWorkers S.position_of S.takes sink program.now request) }
-    ensures bounds { IfOk result (λ _. IsRingSize request.size × IsStartPosition request.start × IsWorkerCount request.workers) }
-    ensures refused { IfErr result (IsRightRingFault request) }
-{
-    let workers = u32::try_from(request.workers).unwrap_or(u32::MAX);
-    let one = match Opened::open(
-        rt,
-        alloc,
-        0,
-        request.size,
-        request.start,
-        workers,
-        chapter_room(request.size),
-        chapter_margin(request.size),
-        sink,
-    ) {
-        Ok(one) => one,
-        Err(OpenFault::Size) => return Err(JobsFault::Size),
-        Err(OpenFault::Start) => return Err(JobsFault::Start),
-        Err(OpenFault::Workers) => return Err(JobsFault::Workers),
-        Err(OpenFault::Chapter) => unreachable!(),
-        Err(OpenFault::Memory) => return Err(JobsFault::Program(ProgramFault::Memory)),
+    let file = match File::create(rt, path) {
+        Ok(file) => file,
+        Err(error) => {
+            *fault = Some(TapeFileFault::Opening(error));
+            return Err(ProgramFault::Device);
+        }
     };
-    one.consumer.facts();
-    let Ok(opened) = list_of_one(alloc, one) else {
-        return Err(JobsFault::Program(ProgramFault::Memory));
-    };
-    match run_jobs(rt, alloc, opened, jobs, gate) {
-        Ok(report) => Ok(report),
-        Err((JobFault::Memory, _)) => Err(JobsFault::Program(ProgramFault::Memory)),
-        Err((JobFault::UnknownRing, _)) => unreachable!(),
-        Err((JobFault::UnknownWorker, _)) => unreachable!(),
+    let writer = Buffered::new(alloc, NotedWriter::new(file))?;
+    let sink = planned.tape_sink(writer, gate);
+    let report = planned.run(rt, alloc, out, err, sink, gate)?;
+    let tape = finish_tape(report);
+    if !tape.is_whole {
+        *fault = Some(TapeFileFault::Writing(tape.writer.into_writer().error));
+        return Err(ProgramFault::Device);
     }
-}
-
-// Returns a list with one element, or `AllocError` if it cannot be allocated.
-fn list_of_one<A: Drop>(alloc: Global, one: A) -> Result<Vec<A>, AllocError>
-    ensures items { IfOk result (λ list. list.items ≡ one ∷ []) }
-    ensures len { IfOk result (λ list. vec_len list ≡ 1) }
-{
-    let mut list = Vec::new(alloc);
-    list.push(one)?;
-    Ok(list)
-}
-
-/// Returns the number of workers if a ring can be opened with these numbers. Otherwise returns the error of opening it.
-pub fn check_ring(request: JobsRequest) -> Result<u32, JobsFault>
-    ensures bounds { OnOk result (IsRingSize request.size × IsStartPosition request.start × IsWorkerCount request.workers) }
-    ensures workers { IfOk result (λ workers. workers ≡ request.workers) }
-    ensures refused { IfErr result (IsRightRingFault request) }
-{
-    let workers = u32::try_from(request.workers).unwrap_or(u32::MAX);
-    match check_setup(request.size, request.start, workers) {
-        Ok(()) => Ok(workers),
-        Err(fault) => Err(setup_fault(fault)),
-    }
-}
-
-// Returns why no ring can be opened with these numbers.
-fn setup_fault(fault: SetupFault) -> JobsFault
-    ensures { result ≡ fault_of_opening fault }
-{
-    match fault {
-        SetupFault::Size => JobsFault::Size,
-        SetupFault::Start => JobsFault::Start,
-        SetupFault::Workers => JobsFault::Workers,
-    }
+    Ok(())
 }

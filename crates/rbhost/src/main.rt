@@ -20,7 +20,7 @@
 //! - `command` (rb_command_line): which exit statuses there are.
 //! - `feed` and `tape` (rb_tape_commands): what was read and written, by their results.
 //! - `explain` and `cost` (rb_loader): what was explained, and that a cost is exact.
-//! - `check`, `run` and `run_taped` (rb_run_commands): that what is printed is what the rings handed out.
+//! - `check` and `run` (rb_run_commands): that what is printed is what the rings handed out.
 //! - `serve` (rb_service): that every program ran on each context that was not dropped, and what each ring's output
 //!   received.
 //! - `sim` (rb_script): that its lines are those of a world's turns.

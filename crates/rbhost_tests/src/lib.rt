@@ -1,6 +1,6 @@
-//! Tests of the program by its command line, over readers and writers in memory that fail, of `feed`, `tape` and
-//! `run_taped` over such writers, and of what `sim` reports to its watch. Command lines over devices that do not fail are rows of `rb_program_rows`, except for
-//! those with JSON lines.
+//! Tests of the program by its command line, over readers and writers in memory that fail, of `feed`, `tape` and runs with
+//! a tape over such writers, and of what `sim` reports to its watch. Command lines over devices that do not fail are rows
+//! of `rb_program_rows`, except for those with JSON lines.
 #![tactic(auto)]
 
 #[cfg(test)]

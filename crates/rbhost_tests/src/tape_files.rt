@@ -1,8 +1,8 @@
-//! What `run_to_file` reports of a tape's file: to its watch while it is written, and what failed there.
+//! What `run` reports of a tape's file: to its watch while it is written, and what failed there.
 
 use crate::expected::same;
 use rb_json::LineForm;
-use rb_run_commands::{JobsFault, JobsRequest, TapeFile, TapeFileFault, TapeWatch, run_to_file};
+use rb_run_commands::{JobsFault, JobsRequest, TapeFile, TapeFileFault, TapeWatch, run};
 use rb_workers::Gate;
 use std::fs;
 use std::fs::File;
@@ -64,7 +64,7 @@ fn run_three<T: AllocGlobal + Threads + Wait + Sync + Files<File = File>>(
     let mut input = OUTPUT_CONTEXT.as_bytes();
     let mut out = Vec::new(rt.alloc());
     let mut told = Vec::new(rt.alloc());
-    run_to_file(
+    run(
         rt,
         rt.alloc(),
         &mut input,
@@ -80,7 +80,10 @@ fn run_three<T: AllocGlobal + Threads + Wait + Sync + Files<File = File>>(
 // Each of the three records takes sixteen bytes.
 fn the_watch_is_told_the_position_of_the_tape(rt: HostRuntime) {
     let path = "a_tape_that_is_watched";
-    let mut file = TapeFile { path, fault: None };
+    let mut file = TapeFile {
+        path: Some(path),
+        fault: None,
+    };
     let watch = LastPosition::new();
     let is_run = run_three(&rt, &mut file, &watch).is_ok();
     let told = (
@@ -96,11 +99,11 @@ fn the_watch_is_told_the_position_of_the_tape(rt: HostRuntime) {
 #[test]
 fn the_error_of_a_file_is_kept(rt: HostRuntime) {
     let mut full = TapeFile {
-        path: "/dev/full",
+        path: Some("/dev/full"),
         fault: None,
     };
     let mut missing = TapeFile {
-        path: "/dev/null/tape",
+        path: Some("/dev/null/tape"),
         fault: None,
     };
     let watch = LastPosition::new();

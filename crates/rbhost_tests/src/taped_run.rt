@@ -1,15 +1,12 @@
 //! Runs whose records are written as a tape.
 
-ghost use Rattle.std.specs.Prelude.{◌≡◌};
-
 use crate::endings::{ended, number};
 use crate::expected::{same, same_of};
 use crate::fakes::{FakeWriter, Trouble};
 use rb_command_line::Host;
 use rb_json::LineForm;
-use rb_loader::read_program;
-use rb_run_commands::{JOB_BOUNDS, JobsRequest, WrittenTape, check_ring, run_taped};
-use rb_verifier::Verified;
+use rb_run_commands::{JobsRequest, PlannedRun, WrittenTape, finish_tape};
+use rb_workers::OpenGate;
 use std::fs::File;
 use std::io::{Eprint, ErrorKind};
 use std::process::Abort;
@@ -21,17 +18,6 @@ use std::time::Clock;
 // Outputs the first eight bytes of its context (examples/output_context.hex).
 const OUTPUT_CONTEXT: &str = "bf12000000000000 1851000000000000 0000000000000000
     b703000008000000 b704000000000000 8500000082000000 9500000000000000";
-
-// Returns the program that outputs the first eight bytes of its context: its worker's number.
-fn output_context(rt: &(impl Abort + AllocGlobal)) -> Verified
-    ensures rings { result.rings ≡ 1 }
-{
-    let mut text = OUTPUT_CONTEXT.as_bytes();
-    match read_program(rt.alloc(), &mut text, JOB_BOUNDS) {
-        Ok(program) => program,
-        Err(_) => rt.panic("no program"),
-    }
-}
 
 // Returns what a run with these workers and jobs prints while its tape goes to this writer, and the tape. There is room
 // for each record, so nothing else is reported.
@@ -51,16 +37,18 @@ fn run_over<
         start: 8,
         form: LineForm::Words,
     };
-    let Ok(_workers) = check_ring(request) else {
-        rt.panic("no ring");
+    let mut text = OUTPUT_CONTEXT.as_bytes();
+    let Ok(planned) = PlannedRun::read(rt.alloc(), &mut text, request) else {
+        rt.panic("refused");
     };
     let mut out = Vec::new(rt.alloc());
     let mut told = Vec::new(rt.alloc());
-    let program = output_context(rt);
-    let taped = run_taped(rt, rt.alloc(), &program, &mut out, &mut told, tape, request);
-    let Ok(written) = taped else {
-        rt.panic("refused");
+    let sink = planned.tape_sink(tape, &OpenGate);
+    let ran = planned.run(rt, rt.alloc(), &mut out, &mut told, sink, &OpenGate);
+    let Ok(report) = ran else {
+        rt.panic("no report");
     };
+    let written = finish_tape(report);
     same(rt, &told.as_slice(), &b"".as_slice());
     let printed = String::from_utf8(out).ok().expect(rt, "text");
     (printed, written)

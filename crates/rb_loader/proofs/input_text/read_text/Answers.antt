@@ -1,4 +1,4 @@
-use Rattle.std.proofs.Common.{ℕ, List, ◌++◌, ap, arith, take}
+use Rattle.std.proofs.Common.{ℕ, ◌++◌, ap, arith, take}
 use Rattle.std.proofs.KnownBytes.{Consumes-trans}
 use Rattle.rb_loader.proofs.HexTexts.{odd_input, whole_input}
 use Rattle.rb_loader.proofs.input_text.read_text.Goals as goal

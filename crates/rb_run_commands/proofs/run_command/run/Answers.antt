@@ -1,11 +1,11 @@
-use Rattle.std.proofs.Common.{◌≡◌, map, subst}
-use Rattle.rb_jobs.specs.Jobs.{task_of}
-use Rattle.rb_run_commands.specs.WorkerJobs.{tasks_of_workers}
-use Rattle.rb_run_commands.proofs.WorkerTasks.{tasks_lent}
+use Rattle.rb_run_commands.proofs.RunOutputs.{with_tape, without_tape}
 use Rattle.rb_run_commands.proofs.run_command.run.Goals as goal
 
-pub run_and_print-requires-clause-tasks : goal.run_and_print-requires-clause-tasks
-run_and_print-requires-clause-tasks g c _ _ =
-    let many = c.in_ok-workers.ensures.workers in
-    subst (λ workers. map task_of c.as_slice-2.result.now ≡ tasks_of_workers c.in_ok-program.program workers c.args.request.jobs) many
-    (tasks_lent c.in_ok-program.program c.in_ok-workers.workers c.args.request.jobs _ _ _ _ c.in_ok-contexts.ensures.contexts c.as_slice.ensures.value c.in_ok-jobs.ensures.jobs c.as_slice-2.ensures.value)
+pub returns-in-None-clause-printed : goal.returns-in-None-clause-printed
+returns-in-None-clause-printed g c =
+    without_tape g.row.F.Denot g.F.Write.contents c.args.file.now.path _ c.in_ok-planned.planned c.args.request _ _ _ _ c.in_ok-planned.ensures.request c.in_ok-planned.ensures.accepted c.in_ok-run.field-0 c.in-None.is c.in_ok-run.ensures.ran
+    c.in_ok-run.ensures.printed c.in_ok-run.ensures.told
+
+pub returns-clause-printed : goal.returns-clause-printed
+returns-clause-printed g c =
+    with_tape g.row.F.Denot g.F.Write.contents c.args.file.now.path _ c.in_ok-planned.planned c.args.request _ _ _ _ c.in_ok-planned.ensures.request c.in_ok-planned.ensures.accepted _ c.in-Some.is c.in_ok-run_to_file.ensures.printed
