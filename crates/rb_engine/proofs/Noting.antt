@@ -5,7 +5,7 @@ use Rattle.rb_chapter_ring.specs.HandRing.{HandRing}
 use Rattle.rb_chapter_ring.specs.declared.record_end.RecordEnd.{RecordEnd}
 use Rattle.rb_chapter_ring.specs.declared.record_end.RecordEnd.TheVariants as end
 use Rattle.rb_interp.specs.AnsweredCalls.{AnsweredCall, note_of}
-use Rattle.rb_interp.specs.declared.done.Done.{Done}
+use Rattle.rb_interp.specs.declared.completed_call.Done.{Done}
 use Rattle.rb_engine.specs.EngineCalls.{CallsHelpers, CallsRings, EndAnswered, Leads, RingsLead, RunRings, has_number}
 use Rattle.rb_engine.specs.declared.engine_record.EngineRecord.{EngineRecord}
 use Rattle.rb_engine.specs.inner.Noting.{ended_call, ended_note, with_call}

@@ -9,7 +9,7 @@ use Rattle.rb_chapter_ring.specs.declared.record_end.RecordEnd.{RecordEnd}
 use Rattle.rb_chapter_ring.specs.declared.record_end.RecordEnd.TheVariants as end
 use Rattle.rb_interp.specs.ErrorNumbers.{EAGAIN, EINVAL}
 use Rattle.rb_interp.specs.AnsweredCalls.{AnsweredCall, Reserved, Submitted, Discarded, SentOut, Queried, MayAnswerOutput, note_of}
-use Rattle.rb_interp.specs.declared.done.Done.{Done}
+use Rattle.rb_interp.specs.declared.completed_call.Done.{Done}
 use Rattle.rb_engine.specs.RingCalls.{Grants, IsNotSent, IsRefused, Outputs}
 use Rattle.rb_engine.specs.RingTurns.{AfterTurn}
 use Rattle.rb_engine.specs.declared.engine_record.EngineRecord.{EngineRecord}

@@ -2,7 +2,7 @@
 
 ghost use Rattle.std.specs.Prelude.{◌≡◌, ◌≢◌, ◌↔◌, ◌+◌, ◌<◌, ◌≤◌, true, false, refl, [], ◌∷◌, ◌++◌, IfErr, IfNone, IfOk, IfSome, IsErrOf, List, ℕ, is_ok, is_some, length, replicate, Result};
 ghost use Rattle.rb_chapter_ring.specs.declared.record_end.RecordEnd.{RecordEnd as End};
-ghost use Rattle.rb_interp.specs.declared.done.Done.TheVariants.{Reserve, Submit, Discard, Output, Query};
+ghost use Rattle.rb_interp.specs.declared.completed_call.Done.TheVariants.{Reserve, Submit, Discard, Output, Query};
 ghost use Rattle.rb_interp.specs.AnsweredCalls.{Reserved, Submitted, Discarded, SentOut, Queried};
 ghost use Rattle.rb_engine.specs.EngineCalls.{AtRing, OfRing, CallsHelpers, EndAnswered, IsStillOut, Leads, OutputAnswered, QueryAnswered, ReserveAnswered, has_number, record_name};
 ghost use Rattle.rb_engine.specs.RingCalls.{HasNoRoom, HasWaitingFront, Outputs, Takes, WasFront};
@@ -37,7 +37,7 @@ impl Model for EngineRings {
     ghost use Rattle.rb_history.specs.contracts.entries.Entry as entry;
     ghost use Rattle.rb_history.specs.contracts.tally.Tally as tally_row;
     ghost use Rattle.rb_chapter_ring.specs.contracts.out_record.OutRecord as out_row;
-    ghost use Rattle.rb_interp.specs.contracts.done.Done as done_row;
+    ghost use Rattle.rb_interp.specs.contracts.completed_call.Done as done_row;
     ghost use Rattle.rb_engine.specs.EngineCalls.{RunRings};
 
     ghost Value = { RunRings };

@@ -1,11 +1,11 @@
 //! The helpers that a program may call.
 
 ghost use Rattle.std.specs.Prelude.{◌≡◌, ◌≢◌, ℕ, ◌+◌, ◌<◌, List, [], ◌∷◌, ◌++◌, length, replicate, IfErr, IfSome, is_some, is_ok, Bool, true};
-ghost use Rattle.rb_interp.specs.declared.done.Done.{Done};
-ghost use Rattle.rb_interp.specs.declared.done.Done.TheVariants.{Reserve, Submit, Discard, Output, Query};
+ghost use Rattle.rb_interp.specs.declared.completed_call.Done.{Done};
+ghost use Rattle.rb_interp.specs.declared.completed_call.Done.TheVariants.{Reserve, Submit, Discard, Output, Query};
 ghost use Rattle.rb_interp.specs.AnsweredCalls.{AnsweredCall, Reserved, Submitted, Discarded, SentOut, Queried};
 
-use crate::done::Done;
+use crate::completed_call::Done;
 use rb_lend::Lent;
 
 /// The ring buffer helpers that a program may call, as in bpf-helpers(7).

@@ -16,8 +16,8 @@ ghost use Rattle.rb_interp.specs.inner.KeptPointers.{IsKeepable};
 
 use crate::Context;
 use crate::byte_numbers::{number_in, signed_number_in};
+use crate::compiler_facts::known;
 use crate::cpu::Cpu;
-use crate::known::known;
 use crate::offsets::behind;
 use rb_insn::{BinaryOp, Condition, Insn, Operand, Reg, SignedSize, Size, Width, jumps, value};
 use rb_lend::Lent;
@@ -33,7 +33,7 @@ impl<C: Context, R: Lent> Cpu<C, R> {
         ensures goes { let s = state_of R.bytes_of C.shown self.old in execute_copy insn.now dst (register s src.number) s ≡ Goes (state_of R.bytes_of C.shown self.new) }
         ensures memory { self.new.memory ≡ self.old.memory }
     {
-        self.copies(insn, dst, src);
+        self.copy_and_advance(insn, dst, src);
     }
 
     #[inline(always)]
@@ -47,7 +47,7 @@ impl<C: Context, R: Lent> Cpu<C, R> {
     {
         match (a, b) {
             (Value::Number(a), Value::Number(b)) => {
-                self.gives(insn, dst, Value::Number(value(insn, a, b)));
+                self.set_and_advance(insn, dst, Value::Number(value(insn, a, b)));
             }
             _ => {
                 known(false);
@@ -77,7 +77,7 @@ impl<C: Context, R: Lent> Cpu<C, R> {
         self.registers.facts();
         let b = self.operand_number(operand);
         let a = self.registers.number(dst);
-        self.renumbers(insn, dst, value(insn, a, b));
+        self.renumber_and_advance(insn, dst, value(insn, a, b));
     }
 
     #[inline(always)]
@@ -100,10 +100,10 @@ impl<C: Context, R: Lent> Cpu<C, R> {
             Value::Pointer(place, start) => {
                 let at = behind(start, offset);
                 match self.memory.found(size, place, at) {
-                    Some(pointer) => self.gives(insn, dst, pointer),
+                    Some(pointer) => self.set_and_advance(insn, dst, pointer),
                     None => {
                         let number = number_in(size, self.memory.read(place, at, size.bytes()));
-                        self.gives(insn, dst, Value::Number(number));
+                        self.set_and_advance(insn, dst, Value::Number(number));
                     }
                 }
             }
@@ -134,7 +134,7 @@ impl<C: Context, R: Lent> Cpu<C, R> {
                 let at = behind(start, offset);
                 let bytes = self.memory.read(place, at, size.bytes());
                 let number = signed_number_in(size, bytes);
-                self.gives(insn, dst, Value::Number(number));
+                self.set_and_advance(insn, dst, Value::Number(number));
             }
             _ => {
                 known(false);
@@ -246,8 +246,8 @@ impl<C: Context, R: Lent> Cpu<C, R> {
         match (a, b) {
             (Value::Pointer(place, _), _) => match place {
                 MemoryRegion::Record(_) => match condition {
-                    Condition::Equal => self.along_branch(insn, false, distance),
-                    Condition::NotEqual => self.along_branch(insn, true, distance),
+                    Condition::Equal => self.follow_branch(insn, false, distance),
+                    Condition::NotEqual => self.follow_branch(insn, true, distance),
                     _ => {
                         known(false);
                         unreachable!()
@@ -262,7 +262,7 @@ impl<C: Context, R: Lent> Cpu<C, R> {
                     unreachable!()
                 }
             },
-            (Value::Number(a), Value::Number(b)) => self.along_branch(
+            (Value::Number(a), Value::Number(b)) => self.follow_branch(
                 insn,
                 jumps(insn, a, b),
                 distance,
@@ -294,7 +294,7 @@ impl<C: Context, R: Lent> Cpu<C, R> {
     {
         let a = self.registers.number(dst);
         let b = self.operand_number(operand);
-        self.along_branch(insn, jumps(insn, a, b), distance);
+        self.follow_branch(insn, jumps(insn, a, b), distance);
     }
 
     /// Returns the result of the program.

@@ -1,13 +1,13 @@
 //! Helpers that take their answers from a list.
 
 ghost use Rattle.std.specs.Prelude.{◌≡◌, ℕ, ◌+◌, ◌<◌, ◌≤◌, List, [], ◌∷◌, ◌++◌, length, replicate, IfOk, IfErr, IfSome, is_some, is_ok, Bool, true, false, refl, drop, ℤ, pos};
-ghost use Rattle.rb_interp.specs.declared.done.Done.{Done};
-ghost use Rattle.rb_interp.specs.declared.done.Done.TheVariants.{Reserve, Submit, Discard, Output, Query};
+ghost use Rattle.rb_interp.specs.declared.completed_call.Done.{Done};
+ghost use Rattle.rb_interp.specs.declared.completed_call.Done.TheVariants.{Reserve, Submit, Discard, Output, Query};
 ghost use Rattle.rb_interp.specs.ListedAnswers.{Answers, ListLeads, next_of, output_answer};
 ghost use Rattle.rb_interp.specs.AnsweredCalls.{Reserved, Submitted, Discarded, SentOut, Queried};
 ghost use Rattle.rb_interp.specs.inner.ListCalls.{none_called, called_on};
 
-use crate::done::Done;
+use crate::completed_call::Done;
 use crate::helpers::Helpers;
 use crate::numbers::EAGAIN;
 use rb_lend::{Lent, Sheet};

@@ -11,7 +11,7 @@ ghost use Rattle.rb_interp.specs.inner.SlotTable.{part_named};
 ghost use Rattle.rb_interp.specs.inner.KeptPointers.{filled, IsSlotPlace};
 
 use crate::byte_numbers::put_number;
-use crate::known::known;
+use crate::compiler_facts::known;
 use crate::pointer_table::PointerTable;
 use crate::slot_table::{SlotEntry, entry_of, without};
 use crate::{Context, Part, Parts};

@@ -3,8 +3,8 @@
 ghost use Rattle.std.specs.Prelude.{◌≡◌, ◌≢◌, ℕ, ◌+◌, ◌≤◌, List, length, replicate, IfOk, IfErr, MatchResult, take, drop, Some, None, option_map, nat_le, true, false};
 ghost use Rattle.std.specs.Borrow.{sem};
 
+use crate::compiler_facts::known;
 use crate::context::Context;
-use crate::known::known;
 use crate::records::{Records, Slot};
 use crate::stack::Stack;
 use crate::writable_range::WritableRange;

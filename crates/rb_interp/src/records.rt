@@ -4,7 +4,7 @@ ghost use Rattle.std.specs.Prelude.{◌≡◌, IfOk, IfErr, IsSome, Some, None, 
 ghost use Rattle.std.specs.Borrow.{sem};
 ghost use Rattle.rb_interp.specs.inner.SomeOf.{LendsSome};
 
-use crate::known::known;
+use crate::compiler_facts::known;
 use rb_lend::Lent;
 
 /// One of the four slots for a record.

@@ -3,8 +3,8 @@ use Rattle.std.proofs.Common.{◌≡◌, ◌≢◌, ℕ, zero, suc, ◌+◌, pos
 use Rattle.std.specs.Prelude.{count_by, OnOk}
 use Rattle.rb_verifier.specs.Subject.{Subject}
 use Rattle.rb_verifier.proofs.Counting.{count_by-cons}
-use Rattle.rb_interp.specs.declared.done.Done.{Done}
-use Rattle.rb_interp.specs.declared.done.Done.TheVariants as done
+use Rattle.rb_interp.specs.declared.completed_call.Done.{Done}
+use Rattle.rb_interp.specs.declared.completed_call.Done.TheVariants as done
 use Rattle.rb_interp.specs.AnsweredCalls.{AnsweredCall, Reserved, Submitted, Discarded, SentOut, Queried, note_of, notes_of}
 use Rattle.rb_semantics.specs.ProgramStates.{State}
 use Rattle.rb_semantics.specs.HelperCalls.{HelperCall, Submit, Discard, pending_call_of, Resumption, Resumes, Strays, Unfit, resume}

@@ -5,8 +5,8 @@ use Rattle.std.specs.Prelude.{◌≡◌, ℕ, zero, ◌+◌, cond, ℤ, pos, neg
 use Rattle.std.specs.List.{AllZip, sum_by}
 use Rattle.rb_ledger.specs.Seats.{Shared, WorkerSeat}
 use Rattle.rb_interp.specs.ErrorNumbers.{EAGAIN}
-use Rattle.rb_interp.specs.declared.done.Done.{Done}
-use Rattle.rb_interp.specs.declared.done.Done.TheVariants.{Reserve, Submit, Discard, Output}
+use Rattle.rb_interp.specs.declared.completed_call.Done.{Done}
+use Rattle.rb_interp.specs.declared.completed_call.Done.TheVariants.{Reserve, Submit, Discard, Output}
 use Rattle.rb_interp.specs.AnsweredCalls.{AnsweredCall, note_of}
 use Rattle.rb_jobs.specs.declared.seat_record.SeatRecord.{SeatRecord}
 use Rattle.rb_jobs.specs.SeatCalls.{CallsSeats}

@@ -4,8 +4,8 @@ use Rattle.std.proofs.Math.Nat.{le_trans}
 use Rattle.std.specs.Prelude.{◌==◌, sum_by}
 use Rattle.std.proofs.lemmas.List.Sums.{sum_by-append, sum_by-cons}
 use Rattle.rb_history.specs.Span.{span}
-use Rattle.rb_interp.specs.declared.done.Done.{Done}
-use Rattle.rb_interp.specs.declared.done.Done.TheVariants.{Reserve, Submit, Discard, Output, Query}
+use Rattle.rb_interp.specs.declared.completed_call.Done.{Done}
+use Rattle.rb_interp.specs.declared.completed_call.Done.TheVariants.{Reserve, Submit, Discard, Output, Query}
 use Rattle.rb_interp.specs.AnsweredCalls.{notes_of}
 use Rattle.rb_run_cost.specs.CallCosts.{asked_span, AreCallsWithin}
 use Rattle.rb_run_cost.proofs.TracedCalls.{calls_stay}

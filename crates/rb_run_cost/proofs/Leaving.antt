@@ -16,8 +16,8 @@ use Rattle.rb_ledger.specs.Roles.Role.{Worker}
 use Rattle.rb_ledger.specs.Seats.{WorkerSeat}
 use Rattle.rb_ledger.specs.LockedCalls.{LockedCall}
 use Rattle.rb_interp.specs.ErrorNumbers.{EAGAIN, EINVAL}
-use Rattle.rb_interp.specs.declared.done.Done.{Done}
-use Rattle.rb_interp.specs.declared.done.Done.TheVariants.{Reserve, Submit, Discard, Output, Query}
+use Rattle.rb_interp.specs.declared.completed_call.Done.{Done}
+use Rattle.rb_interp.specs.declared.completed_call.Done.TheVariants.{Reserve, Submit, Discard, Output, Query}
 use Rattle.rb_interp.specs.AnsweredCalls.{AnsweredCall, Reserved, Submitted, Discarded, SentOut, Queried, note_of}
 use Rattle.rb_jobs.specs.declared.seat_record.SeatRecord.{SeatRecord}
 use Rattle.rb_jobs.specs.SeatCalls.{AtSeat, CallsSeats, OutputAnswered, RecordAnswered, SeatIsGranted, SeatFindsFull, SeatFindsChapterFull, SeatOutputs, SeatQueries, SeatDiscards, SeatIsRefused, SeatSubmits, NoHandOrSheet, HasNoSheet}

@@ -12,7 +12,7 @@ use Rattle.rb_semantics.specs.HelperCalls.{HelperCall, HelperAnswer}
 use Rattle.rb_semantics.specs.ProgramRuns.{Outcome, Returns, Strayed}
 use Rattle.rb_history.specs.Span.{span}
 use Rattle.rb_history.proofs.Lists.{sum_by-agree}
-use Rattle.rb_interp.specs.declared.done.Done.{Done}
+use Rattle.rb_interp.specs.declared.completed_call.Done.{Done}
 use Rattle.rb_interp.specs.declared.fault.RunFault.TheVariants.{ContextLength, Stray}
 use Rattle.rb_interp.specs.AnsweredCalls.{AnsweredCall, Reserved, Submitted, Discarded, SentOut, Queried, note_of, notes_of}
 use Rattle.rb_interp.specs.RunTraces.{held_once_made, IsMade, AreMade, traced_answer, run_under}

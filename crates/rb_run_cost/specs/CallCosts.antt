@@ -4,8 +4,8 @@ use Rattle.rb_program.specs.Shape.{IsWellShaped, IsInstructionStart}
 use Rattle.rb_verifier.specs.Annotation.{HasValid}
 use Rattle.rb_verifier.specs.Subject.{Subject, limits_of}
 use Rattle.rb_history.specs.Span.{span}
-use Rattle.rb_interp.specs.declared.done.Done.{Done}
-use Rattle.rb_interp.specs.declared.done.Done.TheVariants.{Reserve, Output}
+use Rattle.rb_interp.specs.declared.completed_call.Done.{Done}
+use Rattle.rb_interp.specs.declared.completed_call.Done.TheVariants.{Reserve, Output}
 use Rattle.rb_interp.specs.declared.fault.RunFault.{RunFault}
 use Rattle.rb_interp.specs.AnsweredCalls.{AnsweredCall, notes_of}
 use Rattle.rb_interp.specs.RunTraces.{RunMatches, TellsLength}

@@ -2,8 +2,8 @@
 use Rattle.std.specs.Prelude.{◌≡◌, ◌⊎◌, ℕ, zero, ◌==◌, pos, Bool, true, false, List, [], ◌∷◌, ◌++◌, filter_map, slice_get, Option, Some, None, if◌then◌else◌}
 use Rattle.rb_history.specs.declared.entries.Entry.{Entry}
 use Rattle.rb_history.specs.declared.entries.Entry.TheVariants.{Res, Full}
-use Rattle.rb_interp.specs.declared.done.Done.{Done}
-use Rattle.rb_interp.specs.declared.done.Done.TheVariants.{Reserve, Output}
+use Rattle.rb_interp.specs.declared.completed_call.Done.{Done}
+use Rattle.rb_interp.specs.declared.completed_call.Done.TheVariants.{Reserve, Output}
 use Rattle.rb_interp.specs.AnsweredCalls.{AnsweredCall, notes_of}
 use Rattle.rb_ledger.specs.Seats.{WorkerSeat}
 use Rattle.rb_jobs.specs.declared.seat_record.SeatRecord.{SeatRecord}

@@ -11,7 +11,7 @@ use Rattle.rb_cost.specs.Cost.{IsCost}
 use Rattle.rb_cost.specs.Runs.{ring_cost_at}
 use Rattle.rb_run_cost.specs.CallCosts.{IsVerified}
 use Rattle.rb_ledger.specs.Seats.{WorkerSeat}
-use Rattle.rb_interp.specs.declared.done.Done.{Done}
+use Rattle.rb_interp.specs.declared.completed_call.Done.{Done}
 use Rattle.rb_interp.specs.AnsweredCalls.{notes_of}
 use Rattle.rb_jobs.specs.SeatHelpers.{makes, fails}
 use Rattle.rb_jobs.specs.declared.job.Job.{Job}

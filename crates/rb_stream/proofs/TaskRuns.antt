@@ -4,7 +4,7 @@ use Rattle.std.specs.List.{AllZip, flat_map, sum_by}
 use Rattle.std.proofs.lemmas.List.Sums.{sum_by-append, sum_by-cons}
 use Rattle.rb_verifier.specs.Subject.{Subject}
 use Rattle.rb_history.specs.declared.tally.Tally.{Tally}
-use Rattle.rb_interp.specs.declared.done.Done.{Done}
+use Rattle.rb_interp.specs.declared.completed_call.Done.{Done}
 use Rattle.rb_interp.specs.AnsweredCalls.{notes_of}
 use Rattle.rb_ledger.specs.Seats.{WorkerSeat, IsSameSeat}
 use Rattle.rb_jobs.specs.SeatLaws.{SeatBegins}

@@ -1,7 +1,7 @@
 -- The report on a run of jobs over rings (own).
 use Rattle.std.specs.Prelude.{◌≡◌, ◌≢◌, All, ℕ, ◌+◌, ◌<◌, nat_lt, not, List, [], ◌∷◌, ◌++◌, Bool, map, Result, Ok, Err, OnOk}
 use Rattle.std.specs.List.{AllZip, count_by, list_any, sum_by}
-use Rattle.rb_interp.specs.declared.done.Done.{Done}
+use Rattle.rb_interp.specs.declared.completed_call.Done.{Done}
 use Rattle.rb_interp.specs.AnsweredCalls.{AllMayAnswer, notes_of}
 use Rattle.rb_history.specs.RingModel.{Ring}
 use Rattle.rb_chapter_ring.specs.ChapterCalls.{consumer_by_chapter}

@@ -3,8 +3,8 @@ use Rattle.std.specs.Prelude.{ℕ, ◌-◌, Bool, [], ◌∷◌, ◌++◌}
 use Rattle.rb_chapter_ring.specs.declared.record_end.RecordEnd.{RecordEnd}
 use Rattle.rb_chapter_ring.specs.declared.record_end.RecordEnd.TheVariants as end
 use Rattle.rb_interp.specs.AnsweredCalls.{AnsweredCall, Submitted, Discarded}
-use Rattle.rb_interp.specs.declared.done.Done.{Done}
-use Rattle.rb_interp.specs.declared.done.Done.TheVariants.{Submit, Discard}
+use Rattle.rb_interp.specs.declared.completed_call.Done.{Done}
+use Rattle.rb_interp.specs.declared.completed_call.Done.TheVariants.{Submit, Discard}
 use Rattle.rb_engine.specs.declared.engine_record.EngineRecord.{EngineRecord}
 use Rattle.rb_engine.specs.EngineCalls.{RunRings}
 

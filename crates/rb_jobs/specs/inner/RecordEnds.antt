@@ -6,8 +6,8 @@ use Rattle.rb_chapter_ring.specs.declared.record_end.RecordEnd.TheVariants.{Subm
 use Rattle.rb_chapter_ring.specs.RecordEnds.{tally_with_end}
 use Rattle.rb_ledger.specs.Seats.{WorkerSeat}
 use Rattle.rb_ledger.specs.RecordEnds.{EndsAt, sent_by_end}
-use Rattle.rb_interp.specs.declared.done.Done.{Done}
-use Rattle.rb_interp.specs.declared.done.Done.TheVariants.{Submit as SubmitNote, Discard as DiscardNote}
+use Rattle.rb_interp.specs.declared.completed_call.Done.{Done}
+use Rattle.rb_interp.specs.declared.completed_call.Done.TheVariants.{Submit as SubmitNote, Discard as DiscardNote}
 use Rattle.rb_interp.specs.AnsweredCalls.{AnsweredCall, Submitted, Discarded}
 use Rattle.rb_jobs.specs.declared.seat_record.SeatRecord.{SeatRecord}
 use Rattle.rb_jobs.specs.SeatCalls.{IsOutAtSeat, SeatCallsRing, notice_of}

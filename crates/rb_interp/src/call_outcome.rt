@@ -2,7 +2,7 @@
 
 /// The result of executing a call or an exit.
 #[derive(Clone, Copy)]
-pub(crate) enum Served {
+pub(crate) enum CallOutcome {
     /// The call was made, and the instruction after it comes next.
     WentOn,
     /// The program ended with this result.
