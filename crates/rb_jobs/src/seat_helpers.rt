@@ -1,7 +1,7 @@
 //! Helpers over the seats of one worker.
 
 ghost use Rattle.std.specs.Prelude.{◌≡◌, ◌≢◌, ◌↔◌, ◌⊎◌, ◌+◌, ◌<◌, ◌≤◌, pos, neg_ℤ, refl, true, false, [], ◌∷◌, ◌++◌, IfOk, IfErr, IfSome, IsErr, IsErrOf, is_ok, is_some, length, replicate};
-ghost use Rattle.rb_interp.specs.declared.done.Done.TheVariants.{Reserve, Submit, Discard, Output, Query};
+ghost use Rattle.rb_interp.specs.declared.completed_call.Done.TheVariants.{Reserve, Submit, Discard, Output, Query};
 ghost use Rattle.rb_interp.specs.AnsweredCalls.{Reserved, Submitted, Discarded, SentOut, Queried};
 ghost use Rattle.rb_interp.specs.ErrorNumbers.{EAGAIN, EINVAL};
 ghost use Rattle.rb_jobs.specs.declared.no_record.NoRecord.TheVariants.{BadFlags};
@@ -9,7 +9,7 @@ ghost use Rattle.rb_jobs.specs.SeatCalls.{AtSeat, SeatQueries};
 ghost use Rattle.rb_jobs.specs.SeatHelpers.{AtRings, CallsHelpers, Leads, has_number};
 ghost use Rattle.rb_jobs.specs.inner.CallAnswers.{SeatReserves, SeatSends, with_call};
 
-mod giving_back;
+mod record_ends;
 
 use crate::call_answers::{answer_of, is_unlogged};
 use crate::job::Gate;
@@ -54,7 +54,7 @@ impl<'h, R, S, G> Model for SeatHelpers<'h, R, S, G> {
     ghost use Rattle.rb_history.specs.contracts.entries.Entry as entry;
     ghost use Rattle.rb_history.specs.contracts.tally.Tally as tally_row;
     ghost use Rattle.rb_chapter_ring.specs.contracts.out_record.OutRecord as out_row;
-    ghost use Rattle.rb_interp.specs.contracts.done.Done as done_row;
+    ghost use Rattle.rb_interp.specs.contracts.completed_call.Done as done_row;
     ghost use Rattle.rb_jobs.specs.SeatHelpers.{AtSeats, AtRings};
 
     ghost Value = { AtSeats };
