@@ -16,8 +16,8 @@ use Rattle.rb_chapter_ring.specs.Chapters.{IsChapterRoom}
 use Rattle.rb_history.specs.TapeBytes.{AreItemsFrom}
 use Rattle.rb_world.specs.declared.actor.Actor.{Actor}
 use Rattle.rb_world.specs.declared.actor.Actor.TheVariants.{Worker, Consumer}
-use Rattle.rb_world.specs.declared.opening.RingSetup.{RingSetup}
-use Rattle.rb_world.specs.declared.opening.WorkerSetup.{WorkerSetup}
+use Rattle.rb_world.specs.declared.world_setup.RingSetup.{RingSetup}
+use Rattle.rb_world.specs.declared.world_setup.WorkerSetup.{WorkerSetup}
 use Rattle.rb_world.specs.declared.turn_done.TurnDone.{TurnDone}
 use Rattle.rb_world.specs.declared.turn_done.TurnDone.TheVariants as answer
 use Rattle.rb_world.specs.declared.world_fault.WorldOpenFault.{WorldOpenFault}

@@ -11,8 +11,8 @@ use Rattle.rb_world.specs.OpenedWorlds.{IsOpenedWorld}
 use Rattle.rb_world.specs.TakenTapes.{taken_items}
 use Rattle.rb_world.specs.WorldRuns.{IsRunOf, TakesTurns, result_of}
 use Rattle.rb_world.specs.WorldValue.{WorldValue, world_of}
-use Rattle.rb_world.specs.declared.opening.RingSetup.{RingSetup}
-use Rattle.rb_world.specs.declared.opening.WorkerSetup.{WorkerSetup}
+use Rattle.rb_world.specs.declared.world_setup.RingSetup.{RingSetup}
+use Rattle.rb_world.specs.declared.world_setup.WorkerSetup.{WorkerSetup}
 use Rattle.rb_world.specs.declared.turn_done.TurnDone.{TurnDone}
 use Rattle.rb_world.specs.declared.turn_done.TurnDone.TheVariants.{Memory}
 use Rattle.heskavo_c.specs.Verdicts.{AreBounds, BytesAreAccepted}

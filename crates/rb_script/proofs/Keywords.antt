@@ -3,7 +3,7 @@ use Rattle.std.proofs.Common.{◌≡◌, ◌==◌, ◌+◌, ℕ, true, false, Li
 use Rattle.std.proofs.lemmas.Bool.{eq-eqb}
 use Rattle.hex.proofs.HexLemmas.{decode_of-same}
 use Rattle.rb_world.specs.declared.actor.Actor.TheVariants.{Worker, Consumer, Keeper}
-use Rattle.rb_world.specs.declared.opening.RingSetup.{RingSetup}
+use Rattle.rb_world.specs.declared.world_setup.RingSetup.{RingSetup}
 use Rattle.rb_script.specs.ScriptText.{Statement, SpellsNumber, SaysRing, SaysWorker, SaysTurns, SaysOneTurn, SaysWords, Says, words_of}
 use Rattle.rb_script.specs.ScriptText.Statement.{RingOf, WorkerOf, TurnsOf}
 

@@ -9,8 +9,8 @@ use Rattle.rb_history.specs.RingModel.{IsWorkerCount}
 use Rattle.rb_world.specs.declared.actor.Actor.{Actor}
 use Rattle.rb_world.specs.declared.actor.Actor.TheVariants.{Worker, Consumer, Keeper}
 use Rattle.rb_verifier.specs.Subject.{Subject}
-use Rattle.rb_world.specs.declared.opening.RingSetup.{RingSetup}
-use Rattle.rb_world.specs.declared.opening.WorkerSetup.{WorkerSetup}
+use Rattle.rb_world.specs.declared.world_setup.RingSetup.{RingSetup}
+use Rattle.rb_world.specs.declared.world_setup.WorkerSetup.{WorkerSetup}
 use Rattle.rb_world.specs.declared.world_fault.WorldOpenFault.{WorldOpenFault}
 use Rattle.rb_world.specs.declared.world_fault.WorldOpenFault.TheVariants as fault
 use Rattle.rb_world.specs.OpenedWorlds.{IsRingSetup, AreRings, HaveContexts, HaveRings, HaveRooms, MayOpen, IsOpenedWorld}

@@ -7,7 +7,7 @@ use Rattle.hex.specs.Hex.{decode_of}
 use Rattle.rb_chapter_ring.specs.Chapters.{IsChapterRoom}
 use Rattle.rb_world.specs.declared.actor.Actor.{Actor}
 use Rattle.rb_world.specs.declared.actor.Actor.TheVariants.{Worker, Consumer, Keeper}
-use Rattle.rb_world.specs.declared.opening.RingSetup.{RingSetup}
+use Rattle.rb_world.specs.declared.world_setup.RingSetup.{RingSetup}
 use Rattle.rb_world.specs.OpenedWorlds.{IsRingSetup}
 
 -- the statement of a line: a ring; a worker, by the hex of its program and the bytes of its context; or a number of

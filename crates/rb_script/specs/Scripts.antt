@@ -3,7 +3,7 @@ use Rattle.std.specs.Prelude.{ℕ, ◌≡◌, ◌≤◌, ◌<◌, ◌+◌, ◌-�
 use Rattle.std.specs.List.{AllZip}
 use Rattle.rb_world.specs.declared.actor.Actor.{Actor}
 use Rattle.rb_world.specs.declared.actor.Actor.TheVariants.{Worker, Consumer, Keeper}
-use Rattle.rb_world.specs.declared.opening.RingSetup.{RingSetup}
+use Rattle.rb_world.specs.declared.world_setup.RingSetup.{RingSetup}
 use Rattle.rb_world.specs.OpenedWorlds.{AreRings, HaveRooms}
 use Rattle.rb_script.specs.declared.script.Script.{Script}
 use Rattle.rb_script.specs.declared.script.ScriptWorker.{ScriptWorker}

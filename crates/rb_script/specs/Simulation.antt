@@ -10,7 +10,7 @@ use Rattle.rb_world.specs.WorldValue.{WorldValue, world_of}
 use Rattle.rb_world.specs.WorldRuns.{next_unit, result_of, TakesTurns}
 use Rattle.rb_world.specs.TurnsDone.{TellsEvent, IsTurnOf, TurnsChaptersOf}
 use Rattle.rb_world.specs.OpenedWorlds.{IsOpenedWorld}
-use Rattle.rb_world.specs.declared.opening.WorkerSetup.{WorkerSetup}
+use Rattle.rb_world.specs.declared.world_setup.WorkerSetup.{WorkerSetup}
 use Rattle.rb_history.specs.Calls.{producer_now, consumer_now}
 use Rattle.rb_history.specs.Counting.{counts_of}
 use Rattle.rb_history.specs.RingModel.{Ring}

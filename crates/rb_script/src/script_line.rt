@@ -2,7 +2,7 @@
 
 ghost use Rattle.std.specs.Prelude.{◌≡◌, ◌↔◌, ◌<◌, ◌^◌, ◌∷◌, ℕ, List, IsTrue, MatchOption};
 ghost use Rattle.std.specs.List.{AllPass};
-ghost use Rattle.rb_world.specs.declared.opening.RingSetup.{RingSetup};
+ghost use Rattle.rb_world.specs.declared.world_setup.RingSetup.{RingSetup};
 ghost use Rattle.rb_world.specs.OpenedWorlds.{IsRingSetup};
 ghost use Rattle.rb_chapter_ring.specs.Chapters.{IsChapterRoom};
 ghost use Rattle.rb_script.specs.ScriptText.{SpellsNumber, SaysRing, SaysWorker, SaysTurns, is_plain as is_plain_byte, words_of};

@@ -10,8 +10,8 @@ use Rattle.rb_semantics.specs.ProgramStates.{entry_program_state}
 use Rattle.rb_interp.specs.MachineState.{MachineState}
 use Rattle.rb_interp.specs.declared.step.Phase.TheVariants.{Ready}
 use Rattle.rb_world.specs.OpeningWorld.{BeginsVerified}
-use Rattle.rb_world.specs.declared.opening.RingSetup.{RingSetup}
-use Rattle.rb_world.specs.declared.opening.WorkerSetup.{WorkerSetup}
+use Rattle.rb_world.specs.declared.world_setup.RingSetup.{RingSetup}
+use Rattle.rb_world.specs.declared.world_setup.WorkerSetup.{WorkerSetup}
 use Rattle.rb_world.specs.declared.world_record.WorldRecord.{WorldRecord}
 use Rattle.rb_world.specs.WorldValue.{KeptRing, WorldValue, worker_of}
 

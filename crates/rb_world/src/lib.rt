@@ -33,7 +33,6 @@
 mod actor;
 mod consumed_ring;
 mod interleaving_laws;
-mod opening;
 mod ring_answers;
 mod run;
 mod turn_done;
@@ -41,14 +40,15 @@ mod worker_turn;
 mod world;
 mod world_fault;
 mod world_record;
+mod world_setup;
 
 pub use actor::Actor;
 pub use interleaving_laws::{
     every_interleaving_is_well, reached_worlds_are_well, taken_records_are_tapes,
 };
-pub use opening::{RingSetup, WorkerSetup};
 pub use run::Report;
 pub use turn_done::TurnDone;
 pub use world::World;
 pub use world_fault::{WorldFault, WorldOpenFault};
 pub use world_record::WorldRecord;
+pub use world_setup::{RingSetup, WorkerSetup};

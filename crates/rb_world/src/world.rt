@@ -2,11 +2,11 @@
 
 use crate::Actor;
 use crate::consumed_ring::ConsumedRing;
-use crate::opening::{RingSetup, WorkerSetup, check_setups, open_rings, start_machines};
 use crate::turn_done::TurnDone;
 use crate::worker_turn::work;
 use crate::world_fault::WorldOpenFault;
 use crate::world_record::WorldRecord;
+use crate::world_setup::{RingSetup, WorkerSetup, check_setups, open_rings, start_machines};
 use rb_chapter_ring::{Chapter, RingState};
 use rb_history::Taken;
 use rb_interp::{Machine, Phase};

@@ -5,7 +5,7 @@ use Rattle.hex.specs.Hex.{decode_of}
 use Rattle.rb_chapter_ring.specs.Chapters.{IsChapterRoom}
 use Rattle.rb_world.specs.declared.actor.Actor.{Actor}
 use Rattle.rb_world.specs.declared.actor.Actor.TheVariants.{Worker, Consumer, Keeper}
-use Rattle.rb_world.specs.declared.opening.RingSetup.{RingSetup}
+use Rattle.rb_world.specs.declared.world_setup.RingSetup.{RingSetup}
 use Rattle.rb_world.specs.OpenedWorlds.{IsRingSetup}
 use Rattle.rb_script.specs.declared.script.Script.{Script}
 use Rattle.rb_script.specs.declared.script_fault.ScriptFault.{ScriptFault}

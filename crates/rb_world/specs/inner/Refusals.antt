@@ -2,8 +2,8 @@
 use Rattle.std.specs.Prelude.{List, All, length}
 use Rattle.rb_history.specs.RingModel.{IsWorkerCount}
 use Rattle.rb_world.specs.declared.actor.Actor.{Actor}
-use Rattle.rb_world.specs.declared.opening.RingSetup.{RingSetup}
-use Rattle.rb_world.specs.declared.opening.WorkerSetup.{WorkerSetup}
+use Rattle.rb_world.specs.declared.world_setup.RingSetup.{RingSetup}
+use Rattle.rb_world.specs.declared.world_setup.WorkerSetup.{WorkerSetup}
 use Rattle.rb_world.specs.declared.world_fault.WorldFault.{WorldFault}
 use Rattle.rb_world.specs.declared.world_fault.WorldFault.TheVariants.{UnknownActor, Memory}
 use Rattle.rb_world.specs.declared.world_fault.WorldOpenFault.{WorldOpenFault}

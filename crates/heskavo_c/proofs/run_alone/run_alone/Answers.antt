@@ -1,6 +1,6 @@
 use Rattle.std.proofs.Common.{◌≡◌, ◌∙◌, ◌∷◌, [], All, ap, length, replicate, subst, sym, refl, Err}
 use Rattle.std.proofs.lemmas.List.{length-replicate}
-use Rattle.rb_world.specs.declared.opening.WorkerSetup.{WorkerSetup}
+use Rattle.rb_world.specs.declared.world_setup.WorkerSetup.{WorkerSetup}
 use Rattle.rb_world.specs.OpenedWorlds.{IsOpenedWorld, MayOpen}
 use Rattle.rb_world.specs.WorldValue.{IsThere}
 use Rattle.rb_world.proofs.Openings.{length-opened}

@@ -1,5 +1,5 @@
 use Rattle.std.proofs.Common.{◌≡◌, map, take}
-use Rattle.rb_world.specs.declared.opening.WorkerSetup.{WorkerSetup}
+use Rattle.rb_world.specs.declared.world_setup.WorkerSetup.{WorkerSetup}
 use Rattle.rb_script.specs.declared.script.ScriptWorker.{ScriptWorker}
 use Rattle.rb_script.proofs.simulation.setups_of.Given as goal
 

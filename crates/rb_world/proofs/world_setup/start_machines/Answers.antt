@@ -2,7 +2,7 @@ use Rattle.std.proofs.Common.{rules, ◌≡◌, ◌+◌, take, get_or, sym, subs
 use Rattle.std.specs.List.{AllZip}
 use Rattle.rb_world.specs.OpenedWorlds.{IsStarted}
 use Rattle.rb_world.proofs.ListSteps.{zip-more}
-use Rattle.rb_world.proofs.opening.start_machines.Goals as goal
+use Rattle.rb_world.proofs.world_setup.start_machines.Goals as goal
 
 pub loop-worker-preserved : goal.loop-worker-preserved
 loop-worker-preserved c =

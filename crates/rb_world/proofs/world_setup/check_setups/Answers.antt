@@ -1,7 +1,7 @@
 use Rattle.std.proofs.Common.{sym, arith}
 use Rattle.std.proofs.lemmas.Bool.{eqb-true}
 use Rattle.rb_world.proofs.ListSteps.{some-element}
-use Rattle.rb_world.proofs.opening.check_setups.Goals as goal
+use Rattle.rb_world.proofs.world_setup.check_setups.Goals as goal
 
 pub returns-then-not-have_contexts-clause-refused : goal.returns-then-not-have_contexts-clause-refused
 returns-then-not-have_contexts-clause-refused c =

@@ -1,11 +1,11 @@
 use Rattle.std.proofs.Common.{◌≡◌, ◌+◌, ◌<◌, ◌++◌, ◌∷◌, [], take, length, get_or, sym, ap, ◌∙◌, arith}
 use Rattle.std.proofs.lemmas.List.{length-take, take_more}
 use Rattle.rb_chapter_ring.specs.HandRing.{HandRing}
-use Rattle.rb_world.specs.declared.opening.RingSetup.{RingSetup}
+use Rattle.rb_world.specs.declared.world_setup.RingSetup.{RingSetup}
 use Rattle.rb_world.specs.OpenedWorlds.{opened_kept_ring, opened_rings}
 use Rattle.rb_world.proofs.KeptChapters.{first-has}
 use Rattle.rb_world.proofs.Openings.{opened-push}
-use Rattle.rb_world.proofs.opening.open_rings.Goals as goal
+use Rattle.rb_world.proofs.world_setup.open_rings.Goals as goal
 
 pub invariant_of-push : goal.invariant_of-push
 invariant_of-push c = first-has _ _ _ (ap (λ (v : HandRing). v.ring.chapter) c.in-Ok.ensures.opened) c.new-in-loop-number.ensures.items
