@@ -4,8 +4,8 @@ use Rattle.rb_cost.specs.declared.cost.Cost.{Cost}
 use Rattle.rb_cost.specs.declared.cost.RingCost.{RingCost}
 use Rattle.rb_cost.specs.Cost.{IsCost}
 use Rattle.rb_verifier.specs.Subject.{Subject}
-use Rattle.heskavo_c.specs.declared.costing.ProgramCost.{ProgramCost}
-use Rattle.heskavo_c.specs.declared.costing.ProgramRingCost.{ProgramRingCost}
+use Rattle.heskavo_c.specs.declared.program_cost.ProgramCost.{ProgramCost}
+use Rattle.heskavo_c.specs.declared.program_cost.ProgramRingCost.{ProgramRingCost}
 use Rattle.heskavo_c.specs.Verdicts.{BytesAreAccepted}
 
 -- what is reported of the cost at a ring

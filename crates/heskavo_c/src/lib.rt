@@ -11,39 +11,39 @@
 //! freed before a call returns, except that of an open engine.
 #![tactic(auto)]
 
-mod costing;
 mod engine_answers;
 mod engine_handle;
 mod engine_programs;
 mod engine_records;
-mod explaining;
+mod explanation;
 mod linux_page;
 mod linux_record;
 mod load;
 mod loose;
 mod outgoing;
+mod program_cost;
 mod run_alone;
 mod run_tapes;
-mod running;
+mod single_run;
 mod status;
 mod tapes;
 mod verdict;
-mod verifying;
+mod verification;
 mod version;
 
-pub use costing::{ProgramCost, ProgramRingCost, heskavo_cost};
 pub use engine_answers::{RingCounts, heskavo_engine_counts, heskavo_engine_query};
 pub use engine_handle::EngineHandle;
 pub use engine_programs::{
     heskavo_engine_close, heskavo_engine_load, heskavo_engine_open, heskavo_engine_run,
 };
 pub use engine_records::{TakenRecord, heskavo_engine_put, heskavo_engine_take};
-pub use explaining::heskavo_explain;
+pub use explanation::heskavo_explain;
 pub use linux_page::{LinuxPage, heskavo_linux_page};
 pub use linux_record::{LinuxRecord, heskavo_linux_record};
-pub use running::heskavo_run;
+pub use program_cost::{ProgramCost, ProgramRingCost, heskavo_cost};
+pub use single_run::heskavo_run;
 pub use status::{ARGUMENT, BROKEN, DONE, EMPTY, FAULT, FULL, MEMORY, MORE, REFUSED, ROOM};
 pub use tapes::{TapeRecord, heskavo_tape_next, heskavo_tape_put, heskavo_tape_put_discarded};
 pub use verdict::{BYTES, RULES, SHAPE, Verdict};
-pub use verifying::heskavo_verify;
+pub use verification::heskavo_verify;
 pub use version::heskavo_version;

@@ -1,6 +1,6 @@
 use Rattle.std.proofs.Common.{◌∙◌, ap, map}
 use Rattle.heskavo_c.specs.Costs.{ring_row}
-use Rattle.heskavo_c.proofs.costing.heskavo_cost.Goals as goal
+use Rattle.heskavo_c.proofs.program_cost.heskavo_cost.Goals as goal
 
 pub returns-clause-told : goal.returns-clause-told
 returns-clause-told c =

@@ -1,7 +1,7 @@
 use Rattle.std.proofs.Common.{◌≡◌, ℕ, zero, suc, ◌+◌, ◌<◌, ◌++◌, List, [], ◌∷◌, length, take, drop, map, set, get_or, refl, ◌∙◌, ap, arith}
 use Rattle.rb_cost.specs.Cost.{no_ring_cost}
 use Rattle.heskavo_c.specs.Costs.{ring_row}
-use Rattle.heskavo_c.proofs.costing.put_rows.Goals as goal
+use Rattle.heskavo_c.proofs.program_cost.put_rows.Goals as goal
 
 -- one more element has its new value
 set_mapped : {X Y : Type 0} (f : X → Y) (xs : List X) (ys : List Y) (i : ℕ) (d : X) → length ys ≡ length xs → i < length xs → set (map f (take i xs) ++ drop i ys) i (f (get_or xs i d)) ≡ map f (take (suc i) xs) ++ drop (suc i) ys

@@ -2,7 +2,7 @@ use Rattle.std.proofs.Common.{ℕ, ◌<◌, sym, subst}
 use Rattle.rb_history.specs.TapeBytes.{AreItemsFrom}
 use Rattle.heskavo_c.specs.Runs.{IsDrained, items_left}
 use Rattle.heskavo_c.proofs.RunEnd.{run-ends}
-use Rattle.heskavo_c.proofs.running.run_once.Goals as goal
+use Rattle.heskavo_c.proofs.single_run.run_once.Goals as goal
 
 pub value_of-value-requires-clause-there : goal.value_of-value-requires-clause-there
 value_of-value-requires-clause-there c = (run-ends c.args.program.now c.args.context.now c.args.size c.in_ok-world.world c.requires.size c.in_ok-world.ensures.ran).there
