@@ -64,8 +64,8 @@
 //! is held, or that a notification reaches anybody. Rings with the same tag can't be told apart.
 #![tactic(auto)]
 
-mod binding;
 mod binding_laws;
+mod bound_chapters;
 mod call_laws;
 mod chapter_headline;
 mod hand_lock_laws;
@@ -75,8 +75,8 @@ mod lock_laws;
 mod no_stranger;
 mod seat_counts;
 
-pub use binding::{BindFault, bind_chapters};
 pub use binding_laws::{chapters_may_be_bound, seats_tie_once_bound};
+pub use bound_chapters::{BindFault, bind_chapters};
 pub use call_laws::each_locked_call_is_whole;
 pub use chapter_headline::chapter_headline_holds;
 pub use hand_lock_laws::hand_lock_rule_is_kept;

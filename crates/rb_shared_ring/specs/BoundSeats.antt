@@ -5,7 +5,7 @@ use Rattle.rb_chapter_ring.specs.Chapters.{Chapter, joined}
 use Rattle.rb_chapter_ring.specs.ChapterRing.{ChapterRing}
 use Rattle.rb_ledger.specs.Seats.{WorkerSeat}
 use Rattle.rb_ledger.specs.Headline.{IsGathered}
-use Rattle.rb_ledger.specs.declared.binding.BindFault.{BindFault}
+use Rattle.rb_ledger.specs.declared.bound_chapters.BindFault.{BindFault}
 use Rattle.rb_ledger.specs.ChapterSeats.{ChapterConsumerSeat, whole_consumer}
 use Rattle.rb_ledger.specs.ChapterClosing.{IsGatheredByChapters, AreTied, bound_book}
 use Rattle.rb_ledger.specs.ChapterHeadline.{bound_ring}

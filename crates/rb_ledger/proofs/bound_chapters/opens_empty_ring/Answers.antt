@@ -2,7 +2,7 @@ use Rattle.std.proofs.Common.{◌≡◌, [], length, sym, ◌∙◌, arith}
 use Rattle.std.proofs.lemmas.Bool.{eqb-true}
 use Rattle.rb_chapter_ring.specs.UntakenRecords.{untaken_shown}
 use Rattle.rb_ledger.proofs.BindingSteps.{none-mapped, opens-exact}
-use Rattle.rb_ledger.proofs.binding.opens_empty_ring.Goals as goal
+use Rattle.rb_ledger.proofs.bound_chapters.opens_empty_ring.Goals as goal
 
 pub returns : goal.returns
 returns c =

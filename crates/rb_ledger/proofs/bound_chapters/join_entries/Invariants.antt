@@ -1,6 +1,6 @@
 use Rattle.std.proofs.Common.{◌≡◌, ◌++◌, drop}
 use Rattle.rb_chapter_ring.specs.Chapters.{joined}
-use Rattle.rb_ledger.proofs.binding.join_entries.Given as goal
+use Rattle.rb_ledger.proofs.bound_chapters.join_entries.Given as goal
 
 abbrev pub invariant-loop-chapter : goal.invariant-loop-chapter
 invariant-loop-chapter l =

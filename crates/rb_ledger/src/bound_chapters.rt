@@ -1,7 +1,7 @@
 //! Binding chapters: joining their entries to one history.
 
 ghost use Rattle.std.specs.Prelude.{◌≡◌, ◌↔◌, ◌++◌, ◌∷◌, [], IfOk, IsErrOf, IsTrue, replicate, length};
-ghost use Rattle.rb_chapter_ring.specs.Standing.{no_tally};
+ghost use Rattle.rb_chapter_ring.specs.Snapshot.{no_tally};
 ghost use Rattle.rb_chapter_ring.specs.Chapters.{empty_ring, joined};
 ghost use Rattle.rb_chapter_ring.specs.WholeHistory.{Binds, IsBound};
 ghost use Rattle.rb_ledger.specs.ChapterClosing.{AreNumberedFrom, EachGoesOn};
@@ -43,7 +43,7 @@ pub fn bind_chapters(
     if !are_numbered(chapters, last) {
         return Err(BindFault::Number);
     }
-    are_legal(chapters, last);
+    facts_of_chapters(chapters, last);
     if !go_on(chapters, last) {
         return Err(BindFault::Opening);
     }
@@ -75,7 +75,7 @@ fn are_numbered_upward(chapters: &[Chapter]) -> bool
 }
 
 // States that each chapter is legal. It has nothing to do.
-fn are_legal(chapters: &[Chapter], last: &Chapter)
+fn facts_of_chapters(chapters: &[Chapter], last: &Chapter)
     ensures legal { AllLegal (chapters.now ++ last.now ∷ []) }
 {
     for chapter in chapters {
