@@ -11,18 +11,18 @@
 //! or time: not that a thread runs, nor that the run ends.
 #![tactic(auto)]
 
-mod consuming;
-mod counting;
+mod consumer;
 mod entry_kinds;
+mod history_counts;
 mod many_takes;
 mod open_ring;
 mod outputs;
 mod plain_faults;
 mod plain_reservation;
 mod plain_ring;
-mod producing;
+mod producer;
 
-pub use consuming::{Consumer, Found};
+pub use consumer::{Consumer, Found};
 pub use entry_kinds::{
     is_discarding, is_grant, is_grant_of, is_refusal, is_reserved, is_reserved_by, is_submitted,
 };
@@ -31,4 +31,4 @@ pub use outputs::{Outputs, output, sheet};
 pub use plain_faults::{PlainOpenFault, Stray};
 pub use plain_reservation::PlainReservation;
 pub use plain_ring::PlainRing;
-pub use producing::Producer;
+pub use producer::Producer;

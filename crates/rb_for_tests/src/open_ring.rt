@@ -9,8 +9,8 @@ ghost use Rattle.rb_ledger.specs.ChapterClosing.{IsClosedByChapters};
 ghost use Rattle.rb_shared_ring.specs.SharedSeats.{IsSameChapterConsumer};
 ghost use Rattle.rb_for_tests.specs.OwnSeats.{HasOwnSeats};
 
-use crate::consuming::{Consumer, consume};
-use crate::producing::{Producer, produce_all};
+use crate::consumer::{Consumer, consume};
+use crate::producer::{Producer, produce_all};
 use rb_shared_ring::{Closing, ConsumerSeat, NotAll, OpenFault, Seat, SharedRing, open};
 use std::alloc::Global;
 use std::sync::Wait;

@@ -3,7 +3,7 @@
 ghost use Rattle.std.specs.Prelude.{◌≡◌, ◌≤◌, ◌+◌, replicate};
 ghost use Rattle.rb_ledger.specs.Seats.{IsSameSeat};
 
-use crate::producing::Producer;
+use crate::producer::Producer;
 use rb_lend::{Lent, Sheet};
 use rb_shared_ring::{Seat, SharedRing, WaitBackoff};
 use std::alloc::Global;

@@ -11,8 +11,10 @@ ghost use Rattle.rb_history.specs.NoticesAndQueries.{IsDue, query_answer};
 ghost use Rattle.rb_history.specs.inner.RecordRows.{IsBusyAt};
 ghost use Rattle.rb_history.specs.Calls.{Logs, RingHasRoom, HasBusyFront, AllTaken, Takes, Grants, FindsFull, Outputs, Refuses, HoldsReservation, Submits, Discards, Strays, producer_now, consumer_now};
 
-use crate::counting::{busy_index, discards_in, grants_in, refusals_in, reserved_in, submitted_in};
 use crate::entry_kinds::is_reserved;
+use crate::history_counts::{
+    busy_index, discards_in, grants_in, refusals_in, reserved_in, submitted_in,
+};
 use crate::plain_faults::{PlainOpenFault, Stray};
 use crate::plain_reservation::PlainReservation;
 use rb_history::{
