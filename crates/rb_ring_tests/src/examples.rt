@@ -3,7 +3,7 @@
 ghost use Rattle.std.specs.Prelude.{◌≡◌};
 ghost use Rattle.rb_shared_ring.specs.SharedSeats.{IsSameChapterConsumer};
 
-use crate::closing::closed;
+use crate::closed_rings::closed;
 use crate::expected::{same, sheet};
 use crate::rings_with_seats::{granted, one_seat, submitted};
 use rb_chapter_ring::{Chapter, RingState};

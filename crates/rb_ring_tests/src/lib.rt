@@ -7,7 +7,7 @@ mod batches;
 #[cfg(test)]
 mod chapter_entries;
 #[cfg(test)]
-mod closing;
+mod closed_rings;
 #[cfg(test)]
 mod examples;
 #[cfg(test)]

@@ -7,10 +7,10 @@
 
 mod bench;
 mod fault;
-mod listing;
 mod loading;
 mod numbers;
 mod orders;
+mod ring_lists;
 mod soak;
 mod sweep;
 

@@ -15,7 +15,7 @@ mod rings;
 mod seats;
 mod shared_rings;
 mod sheets;
-mod standing;
+mod snapshot;
 
 use crate::fault::TrialFault;
 pub(crate) use memory::{TRIES, tell_memory};

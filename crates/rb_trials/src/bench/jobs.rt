@@ -6,8 +6,8 @@ ghost use Rattle.rb_workers.specs.Opened.{AreOpened};
 use super::programs::RESERVING;
 use super::repeated::ContextLen;
 use crate::fault::TrialFault;
-use crate::listing::listed;
 use crate::loading::verified;
+use crate::ring_lists::list_of_one;
 use rb_interp::RunFault;
 use rb_program::decode;
 use rb_verifier::Verified;
@@ -71,7 +71,7 @@ pub(crate) fn opened<R: Wait>(
     let sink = NullSink { position: 0 };
     let (room, margin) = (chapter_room(JOBS_SIZE), chapter_margin(JOBS_SIZE));
     match Opened::open(rt, alloc, 0, JOBS_SIZE, 0, workers, room, margin, sink) {
-        Ok(one) => listed(alloc, workers, one),
+        Ok(one) => list_of_one(alloc, workers, one),
         Err(_) => Err(TrialFault::Memory),
     }
 }

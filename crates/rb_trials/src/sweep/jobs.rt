@@ -5,9 +5,9 @@ ghost use Rattle.rb_workers.specs.Opened.{AreOpened, IsOpened};
 
 use super::memory::{TRIES, tell_memory};
 use super::programs::{OUTPUT, RESERVE, verified};
-use super::standing::tell_counts;
+use super::snapshot::tell_counts;
 use crate::fault::TrialFault;
-use crate::listing::listed;
+use crate::ring_lists::list_of_one;
 use rb_interp::RunFault;
 use rb_shared_ring::OpenFault;
 use rb_verifier::Verified;
@@ -143,7 +143,7 @@ fn one_ring<R: Wait + Print>(rt: &R, alloc: Global) -> Result<Vec<Opened<NullSin
 {
     for _ in 0..TRIES {
         let first = opened(rt, alloc)?;
-        match listed(alloc, 2, first) {
+        match list_of_one(alloc, 2, first) {
             Ok(rings) => return Ok(rings),
             Err(_) => tell_memory(rt, "list"),
         }

@@ -4,7 +4,7 @@ ghost use Rattle.std.specs.Prelude.{◌≡◌, IfOk};
 
 use super::memory::{TRIES, tell_memory};
 use super::sheets::{LONG, is_filled};
-use super::standing::{RingStanding, Stands, sheet_beside, tell};
+use super::snapshot::{HasSnapshot, RingSnapshot, sheet_beside, tell};
 use crate::fault::TrialFault;
 use rb_for_tests::{PlainOpenFault, PlainReservation, PlainRing};
 use rb_history::{CONS_POS, NoGrant, PROD_POS, Taken};
@@ -15,9 +15,9 @@ use std::io::Print;
 // How often two records are sent.
 const ROUNDS: u32 = 4;
 
-impl Stands for PlainRing {
-    fn standing(&self) -> RingStanding {
-        RingStanding {
+impl HasSnapshot for PlainRing {
+    fn snapshot(&self) -> RingSnapshot {
+        RingSnapshot {
             chapters: 0,
             entries: self.history().len() as u64,
             producer: self.query(PROD_POS),

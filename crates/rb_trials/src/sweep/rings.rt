@@ -5,7 +5,7 @@ ghost use Rattle.std.specs.Prelude.{◌≡◌, IfOk};
 
 use super::memory::{TRIES, tell_memory};
 use super::sheets::renew;
-use super::standing::{RingStanding, Stands, sheet_beside, tell};
+use super::snapshot::{HasSnapshot, RingSnapshot, sheet_beside, tell};
 use crate::fault::TrialFault;
 use rb_chapter_ring::{Chapter, OpenFault, RingState};
 use rb_history::{CONS_POS, PROD_POS, Taken};
@@ -16,9 +16,9 @@ use std::io::Print;
 /// The room of the chapters.
 pub(crate) const ROOM: u32 = 8;
 
-impl Stands for RingState {
-    fn standing(&self) -> RingStanding {
-        RingStanding {
+impl HasSnapshot for RingState {
+    fn snapshot(&self) -> RingSnapshot {
+        RingSnapshot {
             chapters: self.chapter().number(),
             entries: u64::from(self.chapter().used()),
             producer: self.query(PROD_POS),

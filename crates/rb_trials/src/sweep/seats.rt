@@ -5,7 +5,7 @@ ghost use Rattle.rb_ledger.specs.Seats.{IsSameSeat};
 
 use super::shared_rings::opened;
 use super::sheets::{LONG, filled, renew};
-use super::standing::tell_counts;
+use super::snapshot::tell_counts;
 use crate::fault::TrialFault;
 use rb_history::Taken;
 use rb_lend::Sheet;

@@ -8,7 +8,7 @@ use rb_workers::{NullSink, Opened};
 use std::alloc::Global;
 
 /// Returns a list of one ring for `workers` workers, or an error if the list can't be allocated.
-pub(crate) fn listed(
+pub(crate) fn list_of_one(
     alloc: Global,
     workers: u32,
     ring: Opened<NullSink>,

@@ -4,7 +4,7 @@ use Rattle.rb_workers.specs.declared.opened.Opened.{Opened}
 use Rattle.rb_workers.specs.declared.null_sink.NullSink.{NullSink}
 use Rattle.rb_workers.specs.Opened.{AreOpened, IsOpened}
 use Rattle.rb_workers.proofs.Fresh.{all_opened}
-use Rattle.rb_trials.proofs.listing.listed.Goals as goal
+use Rattle.rb_trials.proofs.ring_lists.list_of_one.Goals as goal
 
 pub returns-in-Ok : goal.returns-in-Ok
 returns-in-Ok c =

@@ -12,7 +12,7 @@ use std::io::Print;
 
 /// A snapshot of a ring: how many chapters of its history were handed out, how many entries follow those, its positions
 /// and its counts.
-pub(crate) struct RingStanding {
+pub(crate) struct RingSnapshot {
     pub(crate) chapters: u64,
     pub(crate) entries: u64,
     pub(crate) producer: u64,
@@ -21,20 +21,20 @@ pub(crate) struct RingStanding {
 }
 
 /// A ring of one thread.
-pub(crate) trait Stands {
+pub(crate) trait HasSnapshot {
     /// Returns a snapshot.
-    fn standing(&self) -> RingStanding;
+    fn snapshot(&self) -> RingSnapshot;
 }
 
 /// Prints a snapshot of a ring after a call.
-pub(crate) fn tell<R: Print, T: Stands>(rt: &R, call: &str, ring: &T) {
-    let RingStanding {
+pub(crate) fn tell<R: Print, T: HasSnapshot>(rt: &R, call: &str, ring: &T) {
+    let RingSnapshot {
         chapters,
         entries,
         producer,
         consumer,
         counts,
-    } = ring.standing();
+    } = ring.snapshot();
     let _ = print!(rt;
         "{call}: chapters {chapters} entries {entries} producer {producer} consumer {consumer} "
     );
@@ -57,7 +57,7 @@ pub(crate) fn tell_counts<R: Print>(rt: &R, counts: Counts) {
 }
 
 /// Returns a long sheet, allocated while a ring exists.
-pub(crate) fn sheet_beside<R: Print, T: Stands>(
+pub(crate) fn sheet_beside<R: Print, T: HasSnapshot>(
     rt: &R,
     alloc: Global,
     ring: &T,
