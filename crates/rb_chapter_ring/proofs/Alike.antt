@@ -13,7 +13,7 @@ use Rattle.rb_history.specs.RingModel.{Ring, StandsFor}
 use Rattle.rb_history.specs.Calls.{RingHasRoom, Logs as WholeLogs, Grants as WholeGrants, FindsFull as WholeFindsFull, Outputs as WholeOutputs, Submits as WholeSubmits, Discards as WholeDiscards, Strays as WholeStrays, Takes as WholeTakes, HasBusyFront as WholeHasBusyFront, AllTaken as WholeAllTaken}
 use Rattle.rb_history.proofs.Laws.{kept-from-legal}
 use Rattle.rb_history.proofs.TakenRecords.{never-both}
-use Rattle.rb_chapter_ring.specs.Standing.{standing_of}
+use Rattle.rb_chapter_ring.specs.Snapshot.{snapshot_of}
 use Rattle.rb_chapter_ring.specs.CountedFrom.{producer_from, consumer_from, records_from, is_granted_from, status_from, grants_from, IsLegalFrom}
 use Rattle.rb_chapter_ring.specs.Chapters.{Chapter}
 use Rattle.rb_chapter_ring.specs.ChapterRoom.{MayGrant, MayRefuse}
@@ -38,7 +38,7 @@ module _ (earlier : List Entry) (v : ChapterRing) (is : ContinuesHistory earlier
   records-now : records_from v.chapter.opening v.chapter.entries ≡ records (earlier ++ v.chapter.entries)
   records-now = ap (λ o. o.records) said-now.stands
 
-  legal-at : IsLegalFrom (standing_of v.chapter.opening.setup earlier) v.chapter.entries
+  legal-at : IsLegalFrom (snapshot_of v.chapter.opening.setup earlier) v.chapter.entries
   legal-at = subst (λ o. IsLegalFrom o v.chapter.entries) is.opened is.legal
 
   grants-now : (w : ℕ) → w < v.chapter.opening.setup.workers → grants_from v.chapter.opening w v.chapter.entries ≡ grants w (earlier ++ v.chapter.entries)

@@ -1,7 +1,7 @@
 -- Chapters that are bound.
 use Rattle.std.proofs.Common.{◌≡◌, List, [], ◌∷◌, ◌++◌, refl, sym, ap, ◌∙◌, subst, append_assoc, append-nil}
 use Rattle.rb_history.specs.Legal.{IsLegal}
-use Rattle.rb_chapter_ring.specs.Standing.{standing_of}
+use Rattle.rb_chapter_ring.specs.Snapshot.{snapshot_of}
 use Rattle.rb_chapter_ring.specs.Chapters.{Chapter, closing_of, joined, last_of}
 use Rattle.rb_chapter_ring.specs.WholeHistory.{OnceBound}
 use Rattle.rb_chapter_ring.proofs.Join.{chapters-join}
@@ -31,5 +31,5 @@ once-bound cs last b =
     record {
       entries = joined-last cs last;
       legal = subst (λ x. IsLegal last.opening.setup (joined x)) b.all j.legal;
-      stands = ap closing_of (sym at) ∙ j.stands ∙ ap (λ x. standing_of last.opening.setup (joined x)) b.all;
+      stands = ap closing_of (sym at) ∙ j.stands ∙ ap (λ x. snapshot_of last.opening.setup (joined x)) b.all;
     }

@@ -5,8 +5,8 @@ use Rattle.std.proofs.lemmas.List.{map-append, get_or_append_left, get_or_push, 
 use Rattle.rb_history.specs.declared.entries.Entry.{Entry}
 use Rattle.rb_history.specs.RoomRule.{Setup}
 use Rattle.rb_history.specs.WorkerCounts.{tally_of, numbers_below}
-use Rattle.rb_chapter_ring.specs.Standing.{Standing, standing_of, tally_at, no_tally}
-use Rattle.rb_chapter_ring.specs.CountedFrom.{standing_after, tally_from}
+use Rattle.rb_chapter_ring.specs.Snapshot.{Snapshot, snapshot_of, tally_at, no_tally}
+use Rattle.rb_chapter_ring.specs.CountedFrom.{snapshot_after, tally_from}
 
 pub length-below : (n : ℕ) → length (numbers_below n) ≡ n
 length-below zero = refl
@@ -29,13 +29,13 @@ map-below f g (suc n) same =
     map-append f (numbers_below n) (n ∷ []) ∙ (λ i. front i ++ last i ∷ []) ∙ sym (map-append g (numbers_below n) (n ∷ []))
 
 -- an opening's totals of a worker of the ring
-pub tally-at : (r : Setup) (h : List Entry) (w : ℕ) → w < r.workers → tally_at (standing_of r h) w ≡ tally_of w h
+pub tally-at : (r : Setup) (h : List Entry) (w : ℕ) → w < r.workers → tally_at (snapshot_of r h) w ≡ tally_of w h
 tally-at r h w l =
     get_or-map (λ v. tally_of v h) (numbers_below r.workers) w 0 no_tally (omega (arith, length-below r.workers))
     ∙ ap (λ v. tally_of v h) (get-below r.workers w 0 l)
 
 -- a worker's totals in the opening after the entries
-pub tally-after : (o : Standing) (t : List Entry) (w : ℕ) → w < o.setup.workers → tally_at (standing_after o t) w ≡ tally_from o w t
+pub tally-after : (o : Snapshot) (t : List Entry) (w : ℕ) → w < o.setup.workers → tally_at (snapshot_after o t) w ≡ tally_from o w t
 tally-after o t w l =
     get_or-map (λ v. tally_from o v t) (numbers_below o.setup.workers) w 0 no_tally (omega (arith, length-below o.setup.workers))
     ∙ ap (λ v. tally_from o v t) (get-below o.setup.workers w 0 l)

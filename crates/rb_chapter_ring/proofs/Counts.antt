@@ -22,7 +22,7 @@ use Rattle.rb_history.specs.WorkerCounts.{tally_of, is_refusal_of, is_discard_of
 use Rattle.rb_history.proofs.RecordWorkers.{granted-once, grant-tells, discarded-from}
 use Rattle.rb_history.proofs.WorkerCounts.{discarded-granted, events-next}
 use Rattle.rb_history.proofs.TakenRecords.{never-both}
-use Rattle.rb_chapter_ring.specs.Standing.{standing_of, shown_count, counts_at}
+use Rattle.rb_chapter_ring.specs.Snapshot.{snapshot_of, shown_count, counts_at}
 use Rattle.rb_chapter_ring.proofs.ChapterPieces.{each-split}
 use Rattle.rb_chapter_ring.proofs.Weights.{weigh-full, weigh-res, weigh-sub, weigh-dis, weigh-take}
 
@@ -113,13 +113,13 @@ module _ (r : Setup) (h : List Entry) (l : IsLegal r h) where
   over-workers : (f : Tally → ℕ) → sum_by f (map (λ w. tally_of w h) (numbers_below r.workers)) ≡ sum_by (λ w. f (tally_of w h)) (numbers_below r.workers)
   over-workers f = fold-map (λ a t. a + f t) (λ w. tally_of w h) 0 (numbers_below r.workers)
 
-  made-is : sum_by (λ t. t.made) (standing_of r h).tallies ≡ count_by is_grant_entry h
+  made-is : sum_by (λ t. t.made) (snapshot_of r h).tallies ≡ count_by is_grant_entry h
   made-is = over-workers (λ t. t.made) ∙ count-once is_grant_of is_grant_entry (numbers_below r.workers) h grant-one
 
-  refused-is : sum_by (λ t. t.refused) (standing_of r h).tallies ≡ count_by is_refusal_entry h
+  refused-is : sum_by (λ t. t.refused) (snapshot_of r h).tallies ≡ count_by is_refusal_entry h
   refused-is = over-workers (λ t. t.refused) ∙ count-once is_refusal_of is_refusal_entry (numbers_below r.workers) h refusal-one
 
-  discarded-is : sum_by (λ t. t.discarded) (standing_of r h).tallies ≡ count_by is_discard_entry h
+  discarded-is : sum_by (λ t. t.discarded) (snapshot_of r h).tallies ≡ count_by is_discard_entry h
   discarded-is = over-workers (λ t. t.discarded) ∙ count-once (λ w. is_discard_of w h) is_discard_entry (numbers_below r.workers) h discard-one
 
 -- ---- records that were taken as events
@@ -215,7 +215,7 @@ events-are r h l =
     let k = kept-from-legal r h l in
     omega (arith, split-rest r [] h refl l, made-split h, waiting-shown h, busy-shown h k.closed, k.given_up)
 
-pub counts-are : (r : Setup) (h : List Entry) → IsLegal r h → counts_at (standing_of r h) ≡ counts_of h
+pub counts-are : (r : Setup) (h : List Entry) → IsLegal r h → counts_at (snapshot_of r h) ≡ counts_of h
 counts-are r h l =
     let k = kept-from-legal r h l in
     let made = made-is r h l in

@@ -9,7 +9,7 @@ use Rattle.rb_history.specs.WorkerCounts.{tally_of, numbers_below}
 use Rattle.rb_history.proofs.Lists.{sum_by-cons, sum_by-snoc}
 use Rattle.rb_history.proofs.RecordWorkers.{bit}
 use Rattle.rb_history.proofs.Tallies.{grants-low}
-use Rattle.rb_chapter_ring.specs.Standing.{Standing, tally_at}
+use Rattle.rb_chapter_ring.specs.Snapshot.{Snapshot, tally_at}
 use Rattle.rb_chapter_ring.specs.CountedFrom.{producer_from, MayFollowFrom, IsLegalFrom}
 use Rattle.rb_chapter_ring.specs.Chapters.{Chapter}
 use Rattle.rb_chapter_ring.specs.WholeHistory.{IsKept}
@@ -37,11 +37,11 @@ pub logs-one : (ts : List Tally) (p : ℕ) (xs ys : List ℕ) (x : ℕ) (e : Ent
 logs-one ts p xs ys x e longer is = ap (entries_of ts p) longer ∙ entries-snoc ts p xs x ∙ ap (λ y. entries_of ts p xs ++ y ∷ []) is
 
 -- by the word alone
-pub logs-in : (o : Standing) (xs ys : List ℕ) (x : ℕ) (e : Entry) → ys ≡ xs ++ x ∷ [] → ((ts : List Tally) (p : ℕ) → entry_of ts p x ≡ e) → entries_in o ys ≡ entries_in o xs ++ e ∷ []
+pub logs-in : (o : Snapshot) (xs ys : List ℕ) (x : ℕ) (e : Entry) → ys ≡ xs ++ x ∷ [] → ((ts : List Tally) (p : ℕ) → entry_of ts p x ≡ e) → entries_in o ys ≡ entries_in o xs ++ e ∷ []
 logs-in o xs ys x e longer is = logs-one o.tallies o.producer xs ys x e longer (is o.tallies (producer_of o.producer (entries_in o xs)))
 
 -- a grant, whose serial is counted from the opening on
-pub logs-grant : (o : Standing) (xs ys : List ℕ) (x w later n k : ℕ) → ys ≡ xs ++ x ∷ [] → ((ts : List Tally) (p : ℕ) → entry_of ts p x ≡ Res w (made_before ts w + later) n p) → (tally_at o w).made + later ≡ k
+pub logs-grant : (o : Snapshot) (xs ys : List ℕ) (x w later n k : ℕ) → ys ≡ xs ++ x ∷ [] → ((ts : List Tally) (p : ℕ) → entry_of ts p x ≡ Res w (made_before ts w + later) n p) → (tally_at o w).made + later ≡ k
     → entries_in o ys ≡ entries_in o xs ++ Res w k n (producer_from o (entries_in o xs)) ∷ []
 logs-grant o xs ys x w later n k longer is serial =
     let p = producer_from o (entries_in o xs) in
@@ -64,12 +64,12 @@ no-words ts p (x ∷ xs) e = absurd (omega (arith, ap length e))
 -- ---- the numbers of the entries of a chapter fit
 
 module _ (earlier : List Entry) (c : Chapter) (kept : IsKept earlier c) where
-  abbrev o : Standing
+  abbrev o : Snapshot
   o = c.opening
 
   workers-are : length o.tallies ≡ o.setup.workers
   workers-are =
-      ap (λ (x : Standing). length x.tallies) kept.continues.opened
+      ap (λ (x : Snapshot). length x.tallies) kept.continues.opened
       ∙ (length-map (numbers_below o.setup.workers) (λ w. tally_of w earlier) ∙ length-below o.setup.workers)
 
   one-within : (before : List Entry) (e : Entry) → MayFollowFrom o before e → IsWithin o.tallies (producer_from o before) e

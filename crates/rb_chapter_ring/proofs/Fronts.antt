@@ -8,8 +8,8 @@ use Rattle.rb_history.specs.declared.stored_records.RecordState.TheVariants.{Res
 use Rattle.rb_history.specs.History.{Shown, Status}
 use Rattle.rb_history.specs.History.Status.{Busy, Waiting, Discarded}
 use Rattle.rb_history.specs.StoredRecords.{is_submitted_state, taken_of}
-use Rattle.rb_chapter_ring.specs.Standing.{record_in}
-use Rattle.rb_chapter_ring.specs.inner.StandingSteps.{events_by, skips_by}
+use Rattle.rb_chapter_ring.specs.Snapshot.{record_in}
+use Rattle.rb_chapter_ring.specs.inner.SnapshotSteps.{events_by, skips_by}
 use Rattle.rb_chapter_ring.specs.Chapters.{Chapter, closing_of}
 use Rattle.rb_chapter_ring.specs.CountedFrom.{consumer_from}
 use Rattle.rb_chapter_ring.specs.ChapterRoom.{HasSettledFront, with_entry}

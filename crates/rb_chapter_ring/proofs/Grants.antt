@@ -9,11 +9,11 @@ use Rattle.rb_history.specs.declared.stored_records.StoredRecord.{StoredRecord}
 use Rattle.rb_history.specs.declared.stored_records.RecordState.TheVariants.{Reserved}
 use Rattle.rb_history.specs.StoredRecords.{shown_record, IsSized, contents_of}
 use Rattle.rb_history.proofs.Contents.{contents-push}
-use Rattle.rb_chapter_ring.specs.Standing.{tally_at}
+use Rattle.rb_chapter_ring.specs.Snapshot.{tally_at}
 use Rattle.rb_chapter_ring.specs.Chapters.{Chapter, closing_of}
 use Rattle.rb_chapter_ring.specs.CountedFrom.{HasRoomFrom, grants_from, producer_from, tally_from}
 use Rattle.rb_chapter_ring.specs.ChapterRoom.{owed, MayGrant, MayRefuse, with_entry}
-use Rattle.rb_chapter_ring.specs.inner.StandingSteps.{with_refusal, with_grant}
+use Rattle.rb_chapter_ring.specs.inner.SnapshotSteps.{with_refusal, with_grant}
 use Rattle.rb_history.specs.WorkerCounts.{numbers_below}
 use Rattle.rb_chapter_ring.proofs.ChapterNumbers.{length-below}
 use Rattle.rb_chapter_ring.proofs.Logging.{refused, granted, serial-is}

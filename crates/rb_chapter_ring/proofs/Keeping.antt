@@ -17,7 +17,7 @@ use Rattle.rb_history.proofs.Exact.{granted-below, granted-from}
 use Rattle.rb_history.proofs.Laws.{KeptAs, kept-from-legal}
 use Rattle.rb_history.proofs.Lists.{list_any-snoc, or-false}
 use Rattle.rb_history.proofs.TakenRecords.{NeverBoth, never-both, waiting-submitted, discarded-is}
-use Rattle.rb_chapter_ring.specs.Standing.{Standing, standing_of}
+use Rattle.rb_chapter_ring.specs.Snapshot.{Snapshot, snapshot_of}
 use Rattle.rb_chapter_ring.specs.CountedFrom.{shows_at, is_granted_from, producer_from, grants_from, MayFollowFrom, IsLegalFrom}
 use Rattle.rb_chapter_ring.specs.Chapters.{Chapter}
 use Rattle.rb_chapter_ring.specs.ChapterRoom.{HasRoomForEntry, with_entry}
@@ -36,7 +36,7 @@ busy-open true false true e = absurd (cc)
 busy-open true false false e = absurd (cc)
 busy-open false false t e = (refl, refl)
 
-granted-is : (o : Standing) (t : List Entry) (w k n p : ℕ) → IsGranted o t w k n p → is_granted_from o t p ≡ true
+granted-is : (o : Snapshot) (t : List Entry) (w k n p : ℕ) → IsGranted o t w k n p → is_granted_from o t p ≡ true
 granted-is o t w k n p g = elim g [
   | inl shown ↦ or_left (list_any (shows_at p) o.records) (is_granted_at t p)
       (list_any_at (shows_at p) o.records shown.1.0 (record { pos = p; len = n; worker = w; serial = k; status = shown.0 }) shown.1.1 (ap (shows_at p) shown.1.2 ∙ eq-eqb p p refl))
@@ -45,36 +45,36 @@ granted-is o t w k n p g = elim g [
 
 -- ---- what may follow a grant
 
-module _ (r : Setup) (h : List Entry) (l : IsLegal r h) (t : List Entry) (lt : IsLegalFrom (standing_of r h) t) where
+module _ (r : Setup) (h : List Entry) (l : IsLegal r h) (t : List Entry) (lt : IsLegalFrom (snapshot_of r h) t) where
   facts : KeptAs r h
   facts = kept-from-legal r h l
 
   never : NeverBoth h
   never = never-both r h l
 
-  at : producer_from (standing_of r h) t ≡ producer_of r.start (h ++ t)
+  at : producer_from (snapshot_of r h) t ≡ producer_of r.start (h ++ t)
   at = producer-same r h facts never t
 
-  free : is_taken_at h (producer_from (standing_of r h) t) ≡ false
-  free = false_from_ne_true (is_taken_at h (producer_from (standing_of r h) t))
-      (λ is. omega (arith, taken-low r h facts (producer_from (standing_of r h) t) is, at, sum_by-append granted_span h t))
+  free : is_taken_at h (producer_from (snapshot_of r h) t) ≡ false
+  free = false_from_ne_true (is_taken_at h (producer_from (snapshot_of r h) t))
+      (λ is. omega (arith, taken-low r h facts (producer_from (snapshot_of r h) t) is, at, sum_by-append granted_span h t))
 
-  none : is_granted_at (h ++ t) (producer_from (standing_of r h) t) ≡ false
-  none = false_from_ne_true (is_granted_at (h ++ t) (producer_from (standing_of r h) t)) (λ is.
-      omega (arith, at, granted-below (h ++ t) (producer_of r.start (h ++ t)) (producer_from (standing_of r h) t) (kept-from-legal r (h ++ t) ((both-ways r h l t).0 lt)).below is))
+  none : is_granted_at (h ++ t) (producer_from (snapshot_of r h) t) ≡ false
+  none = false_from_ne_true (is_granted_at (h ++ t) (producer_from (snapshot_of r h) t)) (λ is.
+      omega (arith, at, granted-below (h ++ t) (producer_of r.start (h ++ t)) (producer_from (snapshot_of r h) t) (kept-from-legal r (h ++ t) ((both-ways r h l t).0 lt)).below is))
 
-  not-submitted : is_submitted_at (h ++ t) (producer_from (standing_of r h) t) ≡ false
-  not-submitted = false_from_ne_true (is_submitted_at (h ++ t) (producer_from (standing_of r h) t))
-      (λ is. true≢false (sym ((kept-from-legal r (h ++ t) ((both-ways r h l t).0 lt)).named (producer_from (standing_of r h) t) (or_left _ _ is)) ∙ none))
+  not-submitted : is_submitted_at (h ++ t) (producer_from (snapshot_of r h) t) ≡ false
+  not-submitted = false_from_ne_true (is_submitted_at (h ++ t) (producer_from (snapshot_of r h) t))
+      (λ is. true≢false (sym ((kept-from-legal r (h ++ t) ((both-ways r h l t).0 lt)).named (producer_from (snapshot_of r h) t) (or_left _ _ is)) ∙ none))
 
-  not-discarded : is_discarded_at (h ++ t) (producer_from (standing_of r h) t) ≡ false
-  not-discarded = false_from_ne_true (is_discarded_at (h ++ t) (producer_from (standing_of r h) t))
-      (λ is. true≢false (sym ((kept-from-legal r (h ++ t) ((both-ways r h l t).0 lt)).named (producer_from (standing_of r h) t) (or_right _ _ is)) ∙ none))
+  not-discarded : is_discarded_at (h ++ t) (producer_from (snapshot_of r h) t) ≡ false
+  not-discarded = false_from_ne_true (is_discarded_at (h ++ t) (producer_from (snapshot_of r h) t))
+      (λ is. true≢false (sym ((kept-from-legal r (h ++ t) ((both-ways r h l t).0 lt)).named (producer_from (snapshot_of r h) t) (or_right _ _ is)) ∙ none))
 
   -- a record that was just granted may be submitted
-  submit-follows : (w k n : ℕ) → MayFollowFrom (standing_of r h) (t ++ Res w k n (producer_from (standing_of r h) t) ∷ []) (Sub (producer_from (standing_of r h) t))
+  submit-follows : (w k n : ℕ) → MayFollowFrom (snapshot_of r h) (t ++ Res w k n (producer_from (snapshot_of r h) t) ∷ []) (Sub (producer_from (snapshot_of r h) t))
   submit-follows w k n =
-      let p = producer_from (standing_of r h) t in
+      let p = producer_from (snapshot_of r h) t in
       let e = Res w k n p in
       let cut : h ++ (t ++ e ∷ []) ≡ (h ++ t) ++ e ∷ [] = sym (append_assoc h t (e ∷ [])) in (
         or_right _ _ (list_any-snoc (is_grant_at p) t e ∙ or_right (is_granted_at t p) (p == p) (eq-eqb p p refl)),
@@ -82,10 +82,10 @@ module _ (r : Setup) (h : List Entry) (l : IsLegal r h) (t : List Entry) (lt : I
         discarded-same r h facts never (t ++ e ∷ []) p free ∙ ap (λ x. is_discarded_at x p) cut ∙ list_any-snoc (is_discard p) (h ++ t) e ∙ or-false _ ∙ not-discarded,
       )
 
-abbrev SubmitMayFollow : List Entry → Standing → Type 0
+abbrev SubmitMayFollow : List Entry → Snapshot → Type 0
 SubmitMayFollow t o = (w k n : ℕ) → MayFollowFrom o (t ++ Res w k n (producer_from o t) ∷ []) (Sub (producer_from o t))
 
-output-follows : (r : Setup) (h : List Entry) (o : Standing) (t : List Entry) → IsLegal r h → o ≡ standing_of r h → IsLegalFrom o t → SubmitMayFollow t o
+output-follows : (r : Setup) (h : List Entry) (o : Snapshot) (t : List Entry) → IsLegal r h → o ≡ snapshot_of r h → IsLegalFrom o t → SubmitMayFollow t o
 output-follows r h o t l is lt = subst (SubmitMayFollow t) (sym is) (submit-follows r h l t (subst (λ x. IsLegalFrom x t) is lt))
 
 -- ---- the calls

@@ -7,7 +7,7 @@ use Rattle.rb_history.specs.declared.stored_records.StoredRecord.{StoredRecord}
 use Rattle.rb_history.specs.Counting.{counts_of}
 use Rattle.rb_history.specs.StoredRecords.{IsSized}
 use Rattle.rb_history.specs.Legal.{IsLegal}
-use Rattle.rb_chapter_ring.specs.Standing.{Standing}
+use Rattle.rb_chapter_ring.specs.Snapshot.{Snapshot}
 use Rattle.rb_chapter_ring.specs.Chapters.{Chapter, closing_of}
 use Rattle.rb_chapter_ring.specs.ChapterRoom.{with_entry}
 use Rattle.rb_chapter_ring.specs.WholeHistory.{IsKept}
@@ -22,7 +22,7 @@ module _ (earlier : List Entry) (c : Chapter) (stored : List StoredRecord) (coun
   pub longer-legal : (e : Entry) → IsKept earlier (with_entry c e) → IsLegal c.opening.setup ((earlier ++ c.entries) ++ e ∷ [])
   longer-legal e kept = subst (IsLegal c.opening.setup) (sym (append_assoc earlier c.entries (e ∷ []))) (whole-legal earlier (with_entry c e) kept (closing_of (with_entry c e)) refl)
 
-  pub keeps : (e : Entry) (now : Standing) (owing : ℕ) (after : List StoredRecord) (counted : Counts) → KeepsRunning earlier (with_entry c e) now owing
+  pub keeps : (e : Entry) (now : Snapshot) (owing : ℕ) (after : List StoredRecord) (counted : Counts) → KeepsRunning earlier (with_entry c e) now owing
       → IsStored c.opening.setup.size now after → All IsSized after → counted ≡ capped_counts (counts_of ((earlier ++ c.entries) ++ e ∷ []))
       → counted.made ≡ taken_before now + length after → IsRingOf earlier (with_entry c e) after counted
   keeps e now owing after counted runs stands sized is made = record {

@@ -14,7 +14,7 @@ use Rattle.rb_history.proofs.Laws.{KeptAs}
 use Rattle.rb_history.proofs.Kept.{legal-push}
 use Rattle.rb_history.proofs.TakenRecords.{NeverBoth}
 use Rattle.rb_history.proofs.Lists.{snoc_cases}
-use Rattle.rb_chapter_ring.specs.Standing.{Standing, standing_of}
+use Rattle.rb_chapter_ring.specs.Snapshot.{Snapshot, snapshot_of}
 use Rattle.rb_chapter_ring.specs.CountedFrom.{shows_at, is_granted_from, is_submitted_from, is_discarded_from, producer_from, consumer_from, grants_from, HasRoomFrom, MayFollowFrom, IsLegalFrom}
 use Rattle.rb_chapter_ring.proofs.ChapterPieces.{each-split, all-front}
 use Rattle.rb_chapter_ring.proofs.Shown.{not-shown}
@@ -66,7 +66,7 @@ module _ (r : Setup) (h : List Entry) (k : KeptAs r h) (never : NeverBoth h) whe
 
   -- ---- by the definition from the opening
 
-  grant-from : (b : List Entry) (e : Entry) → MayFollowFrom (standing_of r h) b e → GrantsFrom (producer_of r.start h) e
+  grant-from : (b : List Entry) (e : Entry) → MayFollowFrom (snapshot_of r h) b e → GrantsFrom (producer_of r.start h) e
   grant-from b (Res w s n q) m = omega (arith, m.1)
   grant-from b (Full w n) m = tt
   grant-from b (Sub q) m = tt
@@ -83,7 +83,7 @@ module _ (r : Setup) (h : List Entry) (k : KeptAs r h) (never : NeverBoth h) whe
   low-grant q lt (Dis x) g = refl
   low-grant q lt (Take x) g = refl
 
-  named-from : (b : List Entry) → All (GrantsFrom (producer_of r.start h)) b → (q : ℕ) → is_granted_from (standing_of r h) b q ≡ true → is_taken_at h q ≡ false
+  named-from : (b : List Entry) → All (GrantsFrom (producer_of r.start h)) b → (q : ℕ) → is_granted_from (snapshot_of r h) b q ≡ true → is_taken_at h q ≡ false
   named-from b grants q is = elim (or_cases (list_any (shows_at q) (records h)) (is_granted_at b q) is) [
     | inl shown ↦ not-shown h q shown
     | inr more ↦ elim (cases_lt q (producer_of r.start h)) [
@@ -92,42 +92,42 @@ module _ (r : Setup) (h : List Entry) (k : KeptAs r h) (never : NeverBoth h) whe
     ]
   ]
 
-  new-from : (b : List Entry) → All (GrantsFrom (producer_of r.start h)) b → (e : Entry) → MayFollowFrom (standing_of r h) b e → GoesFrom h (producer_of r.start h) e
+  new-from : (b : List Entry) → All (GrantsFrom (producer_of r.start h)) b → (e : Entry) → MayFollowFrom (snapshot_of r h) b e → GoesFrom h (producer_of r.start h) e
   new-from b g (Res w s n q) m = omega (arith, m.1)
   new-from b g (Full w n) m = tt
   new-from b g (Sub q) m = named-from b g q m.0
   new-from b g (Dis q) m = named-from b g q m.0
   new-from b g (Take q) m = past q (omega (arith, m.0))
 
-  grants-all : (t : List Entry) → IsLegalFrom (standing_of r h) t → All (GrantsFrom (producer_of r.start h)) t
+  grants-all : (t : List Entry) → IsLegalFrom (snapshot_of r h) t → All (GrantsFrom (producer_of r.start h)) t
   grants-all t l = each-split (GrantsFrom (producer_of r.start h)) t (λ before e after is. grant-from before e (l.each before e after is))
 
-  pub from-new : (t : List Entry) → IsLegalFrom (standing_of r h) t → All (GoesFrom h (producer_of r.start h)) t
+  pub from-new : (t : List Entry) → IsLegalFrom (snapshot_of r h) t → All (GoesFrom h (producer_of r.start h)) t
   from-new t l = each-split (GoesFrom h (producer_of r.start h)) t
       (λ before e after is. new-from before (all-front (GrantsFrom (producer_of r.start h)) before (e ∷ after) (subst (All (GrantsFrom (producer_of r.start h))) is (grants-all t l))) e (l.each before e after is))
 
   -- ---- one entry
 
   module _ (b : List Entry) (from : All (GoesFrom h (producer_of r.start h)) b) where
-    producer-is : producer_from (standing_of r h) b ≡ producer_of r.start (h ++ b)
+    producer-is : producer_from (snapshot_of r h) b ≡ producer_of r.start (h ++ b)
     producer-is = producer-same r h k never b
 
-    consumer-is : consumer_from (standing_of r h) b ≡ consumer_of r.start (h ++ b)
+    consumer-is : consumer_from (snapshot_of r h) b ≡ consumer_of r.start (h ++ b)
     consumer-is = consumer-same r h k never b from
 
-    pub fits-from : (n : ℕ) → HasRoomFor r (h ++ b) n → HasRoomFrom (standing_of r h) b n
+    pub fits-from : (n : ℕ) → HasRoomFor r (h ++ b) n → HasRoomFrom (snapshot_of r h) b n
     fits-from n f = record { space = rw (producer-is, consumer-is) f.space; limit = rw producer-is f.limit }
 
-    pub fits-back : (n : ℕ) → HasRoomFrom (standing_of r h) b n → HasRoomFor r (h ++ b) n
+    pub fits-back : (n : ℕ) → HasRoomFrom (snapshot_of r h) b n → HasRoomFor r (h ++ b) n
     fits-back n f = record { space = rw (producer-is, consumer-is) at f.space; limit = rw producer-is at f.limit }
 
-    pub grants-is : (w : ℕ) → w < r.workers → grants_from (standing_of r h) w b ≡ grants w (h ++ b)
+    pub grants-is : (w : ℕ) → w < r.workers → grants_from (snapshot_of r h) w b ≡ grants w (h ++ b)
     grants-is w l = ap (λ t. t.made + grants w b) (tally-at r h w l) ∙ sym (sum_by-append (λ e. cond (is_grant_of w e) 1 0) h b)
 
-    settled-is : (q : ℕ) → is_taken_at h q ≡ false → (is_submitted_from (standing_of r h) b q || is_discarded_from (standing_of r h) b q) ≡ (is_submitted_at (h ++ b) q || is_discarded_at (h ++ b) q)
+    settled-is : (q : ℕ) → is_taken_at h q ≡ false → (is_submitted_from (snapshot_of r h) b q || is_discarded_from (snapshot_of r h) b q) ≡ (is_submitted_at (h ++ b) q || is_discarded_at (h ++ b) q)
     settled-is q free = rw (submitted-same r h k never b q free, discarded-same r h k never b q free) refl
 
-    pub follow-from : (e : Entry) → MayFollow r (h ++ b) e → MayFollowFrom (standing_of r h) b e
+    pub follow-from : (e : Entry) → MayFollow r (h ++ b) e → MayFollowFrom (snapshot_of r h) b e
     follow-from (Res w s n q) m = (m.0, m.1 ∙ sym producer-is, m.2 ∙ sym (grants-is w m.0), fits-from n m.3)
     follow-from (Full w n) m = (m.0, λ f. m.1 (fits-back n f))
     follow-from (Sub q) m =
@@ -138,7 +138,7 @@ module _ (r : Setup) (h : List Entry) (k : KeptAs r h) (never : NeverBoth h) whe
         (granted-same r h k never b q free ∙ m.0, submitted-same r h k never b q free ∙ m.1, discarded-same r h k never b q free ∙ m.2)
     follow-from (Take q) m = (m.0 ∙ sym consumer-is, settled-is q (old-from b (Take q) m) ∙ m.1)
 
-    pub follow-back : (e : Entry) → GoesFrom h (producer_of r.start h) e → MayFollowFrom (standing_of r h) b e → MayFollow r (h ++ b) e
+    pub follow-back : (e : Entry) → GoesFrom h (producer_of r.start h) e → MayFollowFrom (snapshot_of r h) b e → MayFollow r (h ++ b) e
     follow-back (Res w s n q) g m = (m.0, m.1 ∙ producer-is, m.2 ∙ grants-is w m.0, fits-back n m.3)
     follow-back (Full w n) g m = (m.0, λ f. m.1 (fits-from n f))
     follow-back (Sub q) g m =
@@ -149,14 +149,14 @@ module _ (r : Setup) (h : List Entry) (k : KeptAs r h) (never : NeverBoth h) whe
 
   -- ---- all entries
 
-  pub legal-from : (t : List Entry) → IsLegal r (h ++ t) → IsLegalFrom (standing_of r h) t
+  pub legal-from : (t : List Entry) → IsLegal r (h ++ t) → IsLegalFrom (snapshot_of r h) t
   legal-from t l = record {
     each = λ before e after is.
         follow-from before (all-front (GoesFrom h (producer_of r.start h)) before (e ∷ after) (subst (All (GoesFrom h (producer_of r.start h))) is (from-old t l))) e
         (l.each (h ++ before) e after (ap (λ x. h ++ x) is ∙ sym (append_assoc h before (e ∷ after))));
   }
 
-  module _ (t : List Entry) (l : IsLegalFrom (standing_of r h) t) where
+  module _ (t : List Entry) (l : IsLegalFrom (snapshot_of r h) t) where
     rest : (b es : List Entry) → t ≡ b ++ es → IsLegal r (h ++ b) → IsLegal r (h ++ t)
     rest b [] is old = subst (λ x. IsLegal r (h ++ x)) (sym (is ∙ append-nil b)) old
     rest b (e ∷ es) is old =
@@ -170,7 +170,7 @@ module _ (r : Setup) (h : List Entry) (k : KeptAs r h) (never : NeverBoth h) whe
     legal-back = rest [] t refl (subst (IsLegal r) (sym (append-nil h)) k.legal)
 
 -- one more entry
-pub legal-one : (o : Standing) (t : List Entry) (e : Entry) → IsLegalFrom o t → MayFollowFrom o t e → IsLegalFrom o (t ++ e ∷ [])
+pub legal-one : (o : Snapshot) (t : List Entry) (e : Entry) → IsLegalFrom o t → MayFollowFrom o t e → IsLegalFrom o (t ++ e ∷ [])
 legal-one o t e l m = record {
   each = λ before x after is. elim (snoc_cases t e before x after is) [
     | inl p ↦ rw (p.0, p.1) m

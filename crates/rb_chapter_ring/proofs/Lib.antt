@@ -19,7 +19,7 @@ pub mod Bound
 pub mod Chain
 pub mod Keeping
 pub mod Empty
-pub mod SameStanding
+pub mod SameSnapshot
 pub mod Running
 pub mod Logging
 pub mod Limits

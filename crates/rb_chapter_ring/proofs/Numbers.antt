@@ -3,28 +3,28 @@ use Rattle.std.proofs.Common.{◌≡◌, ℕ, zero, suc, ◌+◌, ◌<◌, List,
 use Rattle.std.proofs.lemmas.Bool.{cases_lt}
 use Rattle.std.proofs.lemmas.List.{get_or_append_left, get_or_push}
 use Rattle.rb_history.specs.History.{Shown, Status}
-use Rattle.rb_chapter_ring.specs.Standing.{Standing, no_record, record_in}
-use Rattle.rb_chapter_ring.specs.inner.StandingSteps.{with_refusal, next_record, with_grant, with_end, with_take, events_by, skips_by}
+use Rattle.rb_chapter_ring.specs.Snapshot.{Snapshot, no_record, record_in}
+use Rattle.rb_chapter_ring.specs.inner.SnapshotSteps.{with_refusal, next_record, with_grant, with_end, with_take, events_by, skips_by}
 use Rattle.rb_chapter_ring.specs.inner.Ordinals.{HasOrdinal, KeepsOrdinals, taken_before}
 use Rattle.rb_chapter_ring.specs.declared.record_end.RecordEnd.{RecordEnd}
 use Rattle.rb_chapter_ring.specs.RecordEnds.{status_of_end}
 
 -- one call after another
-pub ordinals-on : (old mid new : Standing) → KeepsOrdinals old mid → KeepsOrdinals mid new → KeepsOrdinals old new
+pub ordinals-on : (old mid new : Snapshot) → KeepsOrdinals old mid → KeepsOrdinals mid new → KeepsOrdinals old new
 ordinals-on old mid new a b = record {
   grown = omega (arith, a.grown, b.grown);
   numbers = λ p n num low. a.numbers p n (b.numbers p n num (omega (arith, low, a.grown))) low;
 }
 
-pub ordinals-same : (o : Standing) → KeepsOrdinals o o
+pub ordinals-same : (o : Snapshot) → KeepsOrdinals o o
 ordinals-same o = record { grown = omega arith; numbers = λ p n num low. num }
 
-pub ordinals-refusal : (w : ℕ) (o : Standing) → KeepsOrdinals o (with_refusal w o)
+pub ordinals-refusal : (w : ℕ) (o : Snapshot) → KeepsOrdinals o (with_refusal w o)
 ordinals-refusal w o = record { grown = omega arith; numbers = λ p n num low. record { index = num.index; within = num.within; here = num.here; ordinal = num.ordinal } }
 
 -- ---- one more record
 
-module _ (w n : ℕ) (o : Standing) where
+module _ (w n : ℕ) (o : Snapshot) where
   abbrev x : Shown
   x = next_record w n o
 
@@ -63,7 +63,7 @@ place-stays (s ∷ ss) zero (suc j) st low = refl
 place-stays (s ∷ ss) (suc i) zero st low = refl
 place-stays (s ∷ ss) (suc i) (suc j) st low = place-stays ss i j st (omega (arith, low))
 
-settled : (o now : Standing) (i : ℕ) (st : Status) → now.records ≡ set o.records i (record (record_in o i) { status = st }) → taken_before now ≡ taken_before o → now.producer ≡ o.producer → KeepsOrdinals o now
+settled : (o now : Snapshot) (i : ℕ) (st : Status) → now.records ≡ set o.records i (record (record_in o i) { status = st }) → taken_before now ≡ taken_before o → now.producer ≡ o.producer → KeepsOrdinals o now
 settled o now i st records taken producer = record {
   grown = omega (arith, producer);
   numbers = λ p n num low.
@@ -72,7 +72,7 @@ settled o now i st records taken producer = record {
       record { index = num.index; within = within; here = sym same ∙ num.here; ordinal = num.ordinal ∙ ap (λ t. t + num.index) taken };
 }
 
-pub ordinals-end : (end : RecordEnd) (i : ℕ) (o : Standing) → KeepsOrdinals o (with_end end i o)
+pub ordinals-end : (end : RecordEnd) (i : ℕ) (o : Snapshot) → KeepsOrdinals o (with_end end i o)
 ordinals-end end i o = settled o (with_end end i o) i (status_of_end end) refl refl refl
 
 -- ---- the record at the front was taken
@@ -81,7 +81,7 @@ behind : (ss : List Shown) (i : ℕ) → 0 < length ss → i < length (drop 1 ss
 behind [] i some low = absurd (omega (arith, some))
 behind (s ∷ ss) i some low = (omega (arith, low), refl)
 
-pub ordinals-take : (o : Standing) → 0 < length o.records → events_by (record_in o 0).status + skips_by (record_in o 0).status ≡ 1 → KeepsOrdinals o (with_take o)
+pub ordinals-take : (o : Snapshot) → 0 < length o.records → events_by (record_in o 0).status + skips_by (record_in o 0).status ≡ 1 → KeepsOrdinals o (with_take o)
 ordinals-take o some one = record {
   grown = omega arith;
   numbers = λ p n num low.

@@ -14,7 +14,7 @@ use Rattle.rb_history.proofs.Finding.{busy-there, found-at}
 use Rattle.rb_history.proofs.Kept.{named-at}
 use Rattle.rb_history.proofs.Laws.{kept-from-legal}
 use Rattle.rb_history.proofs.Row.{at-least, below-end}
-use Rattle.rb_chapter_ring.specs.Standing.{Standing, no_record, record_in}
+use Rattle.rb_chapter_ring.specs.Snapshot.{Snapshot, no_record, record_in}
 use Rattle.rb_chapter_ring.specs.Chapters.{Chapter, closing_of}
 use Rattle.rb_chapter_ring.specs.ChapterCalls.{IsBusyFrom}
 use Rattle.rb_chapter_ring.specs.WholeHistory.{IsKept}
@@ -78,7 +78,7 @@ module _ (earlier : List Entry) (c : Chapter) (kept : IsKept earlier c) where
   row-facts =
       let r = c.opening.setup in
       let h = earlier ++ c.entries in
-      subst (λ (o : Standing). HistoryFacts r h o.records o.producer o.consumer) (sym (ends earlier c kept.continues)) (kept-from-legal r h (whole-legal earlier c kept (closing_of c) refl))
+      subst (λ (o : Snapshot). HistoryFacts r h o.records o.producer o.consumer) (sym (ends earlier c kept.continues)) (kept-from-legal r h (whole-legal earlier c kept (closing_of c) refl))
 
   -- a busy record is in the list
   busy-index : (g : Granted) → IsBusyFrom c.opening c.entries g.pos g.worker g.serial (length g.bytes) → (i : ℕ) × IsBusyAt (closing_of c).records i g.pos (length g.bytes)

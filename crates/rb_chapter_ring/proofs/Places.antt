@@ -1,9 +1,9 @@
 -- The records after those that were taken.
 use Rattle.std.proofs.Common.{◌≡◌, ℕ, zero, suc, ◌+◌, ◌<◌, List, [], ◌∷◌, length, map, drop, get_or, set, refl, ap, arith}
-use Rattle.rb_chapter_ring.specs.declared.standing.UntakenRecord.{UntakenRecord}
-use Rattle.rb_chapter_ring.specs.declared.standing.UntakenStatus.{UntakenStatus}
+use Rattle.rb_chapter_ring.specs.declared.snapshot.UntakenRecord.{UntakenRecord}
+use Rattle.rb_chapter_ring.specs.declared.snapshot.UntakenStatus.{UntakenStatus}
 use Rattle.rb_chapter_ring.specs.UntakenRecords.{status_shown, untaken_shown}
-use Rattle.rb_chapter_ring.specs.Standing.{no_record}
+use Rattle.rb_chapter_ring.specs.Snapshot.{no_record}
 
 -- one of them has another status
 status-here : (rs : List UntakenRecord) (i : ℕ) (d : UntakenRecord) (st : UntakenStatus) → i < length rs →

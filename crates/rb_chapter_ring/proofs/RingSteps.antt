@@ -10,7 +10,7 @@ use Rattle.rb_history.specs.History.{Shown}
 use Rattle.rb_history.specs.History.Status.{Busy, Waiting, Discarded}
 use Rattle.rb_history.specs.StoredRecords.{shown_record, contents_of}
 use Rattle.rb_history.specs.inner.RecordRows.{IsBusyAt}
-use Rattle.rb_chapter_ring.specs.Standing.{Standing, record_in}
+use Rattle.rb_chapter_ring.specs.Snapshot.{Snapshot, record_in}
 use Rattle.rb_chapter_ring.specs.Chapters.{Chapter, closing_of, Meets}
 use Rattle.rb_chapter_ring.specs.ChapterRing.{ChapterRing}
 use Rattle.rb_chapter_ring.specs.ChapterRoom.{record_now, IsBusyNow, with_entry}
@@ -266,7 +266,7 @@ hands-out-parts p i d meets none room =
     let c = p.chapter in
     let stored = stored_of c p.sheets in
     let same = closing-same i.earlier c stored i.counts i.ring d meets none room in
-    let size : d.opening.setup.size ≡ c.opening.setup.size = ap (λ (o : Standing). o.setup.size) meets.goes_on in
+    let size : d.opening.setup.size ≡ c.opening.setup.size = ap (λ (o : Snapshot). o.setup.size) meets.goes_on in
     let left : stored_of d p.sheets ≡ stored = ap (λ o. stored_in o p.sheets) same in
     record {
       keeps = record {

@@ -8,7 +8,7 @@ use Rattle.rb_history.specs.RoomRule.{Setup}
 use Rattle.rb_history.specs.Legal.{IsLegal, MayFollow}
 use Rattle.rb_history.specs.StoredRecords.{entries_owed}
 use Rattle.rb_history.proofs.Laws.{kept-from-legal, legal-front, legal-next}
-use Rattle.rb_chapter_ring.specs.Standing.{Standing, standing_of}
+use Rattle.rb_chapter_ring.specs.Snapshot.{Snapshot, snapshot_of}
 use Rattle.rb_chapter_ring.specs.CountedFrom.{records_from, MayFollowFrom, IsLegalFrom}
 use Rattle.rb_chapter_ring.specs.Chapters.{Chapter, closing_of, Meets}
 use Rattle.rb_chapter_ring.specs.ChapterRoom.{owed_for, HasRoomForEntry, HasRoomForOwed, with_entry}
@@ -59,11 +59,11 @@ room-unstep r h (Dis p) u m l f room = omega (arith, room, weigh-dis entries_owe
 room-unstep r h (Take p) u m l f room = omega (arith, room, weigh-take entries_owed r h (kept-from-legal r h l) p f, one-owed (is_submitted_at h p) (is_discarded_at h p) f.1)
 
 module _ (r : Setup) (h : List Entry) (l : IsLegal r h) where
-  kept-at : (c : Chapter) (e : Entry) → c.opening ≡ standing_of r h → IsLegalFrom (standing_of r h) c.entries → MayFollowFrom (standing_of r h) c.entries e → HasRoomForEntry c e ↔ HasRoomForOwed (with_entry c e)
+  kept-at : (c : Chapter) (e : Entry) → c.opening ≡ snapshot_of r h → IsLegalFrom (snapshot_of r h) c.entries → MayFollowFrom (snapshot_of r h) c.entries e → HasRoomForEntry c e ↔ HasRoomForOwed (with_entry c e)
   kept-at c e opened legal follows =
       let t = c.entries in
       let old : records_from c.opening t ≡ records (h ++ t) = ap (λ x. records_from x t) opened ∙ ap (λ x. x.records) (said r h l t legal).stands in
-      let longer : IsLegalFrom (standing_of r h) (t ++ e ∷ []) = legal-one (standing_of r h) t e legal follows in
+      let longer : IsLegalFrom (snapshot_of r h) (t ++ e ∷ []) = legal-one (snapshot_of r h) t e legal follows in
       let whole : IsLegal r (h ++ (t ++ e ∷ [])) = (both-ways r h l (t ++ e ∷ [])).0 longer in
       let new : records_from c.opening (t ++ e ∷ []) ≡ records (h ++ (t ++ e ∷ [])) = ap (λ x. records_from x (t ++ e ∷ [])) opened ∙ ap (λ x. x.records) (said r h l (t ++ e ∷ []) longer).stands in
       let cut : (h ++ t) ++ e ∷ [] ≡ h ++ (t ++ e ∷ []) = append_assoc h t (e ∷ []) in
@@ -84,7 +84,7 @@ no_entry : (before : List Entry) (e : Entry) (after : List Entry) → [] ≡ bef
 no_entry [] e after is = cc
 no_entry (b ∷ bs) e after is = cc
 
-pub none-legal : (o : Standing) (t : List Entry) → t ≡ [] → IsLegalFrom o t
+pub none-legal : (o : Snapshot) (t : List Entry) → t ≡ [] → IsLegalFrom o t
 none-legal o t none = record { each = λ before e after is. absurd (no_entry before e after (sym none ∙ is)) }
 
 -- a chapter that meets one which continues `earlier` continues `earlier` with that chapter's entries
@@ -92,10 +92,10 @@ module _ (earlier : List Entry) (c d : Chapter) (is : ContinuesHistory earlier c
   longer-legal : IsLegal c.opening.setup (earlier ++ c.entries)
   longer-legal = (goes-on c.opening.setup earlier c.opening is.earlier_legal is.opened c.entries).0.0 is.legal
 
-  ends : closing_of c ≡ standing_of c.opening.setup (earlier ++ c.entries)
+  ends : closing_of c ≡ snapshot_of c.opening.setup (earlier ++ c.entries)
   ends = ((goes-on c.opening.setup earlier c.opening is.earlier_legal is.opened c.entries).1 is.legal).stands
 
-  begins : d.opening ≡ standing_of c.opening.setup (earlier ++ c.entries)
+  begins : d.opening ≡ snapshot_of c.opening.setup (earlier ++ c.entries)
   begins = meets.goes_on ∙ ends
 
   pub next-continues : ContinuesHistory (earlier ++ c.entries) d
@@ -103,7 +103,7 @@ module _ (earlier : List Entry) (c d : Chapter) (is : ContinuesHistory earlier c
       let setup : d.opening.setup ≡ c.opening.setup = ap (λ o. o.setup) begins in
       record {
         earlier_legal = subst (λ x. IsLegal x (earlier ++ c.entries)) (sym setup) longer-legal;
-        opened = begins ∙ ap (λ x. standing_of x (earlier ++ c.entries)) (sym setup);
+        opened = begins ∙ ap (λ x. snapshot_of x (earlier ++ c.entries)) (sym setup);
         legal = none-legal d.opening d.entries none;
       }
 

@@ -8,7 +8,7 @@ use Rattle.rb_history.specs.inner.RecordRows.{HistoryFacts}
 use Rattle.rb_history.specs.StoredRecords.{shown_record}
 use Rattle.rb_history.proofs.Laws.{kept-from-legal}
 use Rattle.rb_history.proofs.Standing.{contents-stand, contents-sized}
-use Rattle.rb_chapter_ring.specs.Standing.{Standing}
+use Rattle.rb_chapter_ring.specs.Snapshot.{Snapshot}
 use Rattle.rb_chapter_ring.specs.Chapters.{Chapter, closing_of}
 use Rattle.rb_chapter_ring.specs.ChapterRing.{StandsForChapter}
 use Rattle.rb_chapter_ring.specs.WholeHistory.{IsSameFrom}
@@ -30,7 +30,7 @@ module _ (earlier : List Entry) (c : Chapter) (stored : List StoredRecord) (coun
   rows =
       let r = c.opening.setup in
       let h = earlier ++ c.entries in
-      let k = subst (λ (o : Standing). HistoryFacts r h o.records o.producer o.consumer) (sym (ends earlier c g.kept.continues)) (kept-from-legal r h legal) in
+      let k = subst (λ (o : Snapshot). HistoryFacts r h o.records o.producer o.consumer) (sym (ends earlier c g.kept.continues)) (kept-from-legal r h legal) in
       subst (λ ss. HistoryFacts r h ss (closing_of c).producer (closing_of c).consumer) (sym g.stands.shown) k
 
   pub stands-for : StandsForChapter (ring_of c stored)

@@ -15,7 +15,7 @@ use Rattle.rb_history.specs.inner.RecordRows.{IsBusyAt}
 use Rattle.rb_history.proofs.Row.{get_or-default}
 use Rattle.rb_history.proofs.Contents.{length-map}
 use Rattle.rb_history.proofs.Settling.{BusyRecord, busy-record, contents-send, contents-drop}
-use Rattle.rb_chapter_ring.specs.Standing.{Standing, no_record, record_in}
+use Rattle.rb_chapter_ring.specs.Snapshot.{Snapshot, no_record, record_in}
 use Rattle.rb_chapter_ring.specs.Chapters.{Chapter, closing_of}
 use Rattle.rb_chapter_ring.specs.ChapterRing.{ChapterRing}
 use Rattle.rb_chapter_ring.specs.ChapterCalls.{HoldsReservationFrom, LogsByChapter}
@@ -24,7 +24,7 @@ use Rattle.rb_chapter_ring.specs.ChapterRoom.{owed, record_now, IsBusyNow, with_
 use Rattle.rb_chapter_ring.specs.declared.record_end.RecordEnd.{RecordEnd}
 use Rattle.rb_chapter_ring.specs.declared.record_end.RecordEnd.TheVariants.{Submit, Discard}
 use Rattle.rb_chapter_ring.specs.inner.EndSteps.{contents_with_end}
-use Rattle.rb_chapter_ring.specs.inner.StandingSteps.{with_end}
+use Rattle.rb_chapter_ring.specs.inner.SnapshotSteps.{with_end}
 use Rattle.rb_chapter_ring.proofs.Settling.{ended}
 use Rattle.rb_chapter_ring.specs.inner.RingBody.{ring_of, IsStored, IsRingOf}
 use Rattle.rb_chapter_ring.proofs.CountSteps.{counting_end, counts-end}
@@ -67,7 +67,7 @@ module _ (earlier : List Entry) (c : Chapter) (stored : List StoredRecord) (coun
   pub pos-now : (record_now c i).pos ≡ pos
   pos-now = ap (λ (s : Shown). s.pos) same-record ∙ busy.at
 
-  settled-stands : (now : Standing) (y : StoredRecord) (st : Status) → shown_record y ≡ record (shown_record t) { status = st } → now.producer ≡ (closing_of c).producer → now.consumer ≡ (closing_of c).consumer
+  settled-stands : (now : Snapshot) (y : StoredRecord) (st : Status) → shown_record y ≡ record (shown_record t) { status = st } → now.producer ≡ (closing_of c).producer → now.consumer ≡ (closing_of c).consumer
       → now.consumed ≡ (closing_of c).consumed → now.skipped ≡ (closing_of c).skipped → now.records ≡ set (closing_of c).records i (record (record_in (closing_of c) i) { status = st }) → IsStored c.opening.setup.size now (set stored i y)
   settled-stands now y st shows p q e k rs =
       let s = g.stands in

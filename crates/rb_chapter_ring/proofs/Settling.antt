@@ -23,7 +23,7 @@ use Rattle.rb_history.proofs.Settled.{settled-most}
 use Rattle.rb_history.proofs.Tallies.{grants-low}
 use Rattle.rb_history.proofs.TakenRecords.{never-both}
 use Rattle.rb_history.proofs.WorkerCounts.{tally-next, tally-sub, tally-dis, events-next, skips-next}
-use Rattle.rb_chapter_ring.specs.Standing.{Standing, standing_of, tally_at, no_record, record_in}
+use Rattle.rb_chapter_ring.specs.Snapshot.{Snapshot, snapshot_of, tally_at, no_record, record_in}
 use Rattle.rb_chapter_ring.specs.Chapters.{Chapter, closing_of}
 use Rattle.rb_chapter_ring.specs.CountedFrom.{records_from, consumer_from, IsLegalFrom, MayFollowFrom}
 use Rattle.rb_chapter_ring.specs.ChapterRoom.{owed_for, owed, with_entry, record_now, IsBusyNow, HasSettledFront, HasRoomForEntry}
@@ -32,7 +32,7 @@ use Rattle.rb_chapter_ring.specs.inner.ChapterBody.{IsBehindTakes}
 use Rattle.rb_chapter_ring.specs.declared.record_end.RecordEnd.{RecordEnd}
 use Rattle.rb_chapter_ring.specs.declared.record_end.RecordEnd.TheVariants.{Submit, Discard}
 use Rattle.rb_chapter_ring.specs.RecordEnds.{entry_of_end, status_of_end, tally_with_end}
-use Rattle.rb_chapter_ring.specs.inner.StandingSteps.{with_end, with_take, events_by, skips_by}
+use Rattle.rb_chapter_ring.specs.inner.SnapshotSteps.{with_end, with_take, events_by, skips_by}
 use Rattle.rb_chapter_ring.proofs.ChapterNumbers.{map-below, tally-at}
 use Rattle.rb_chapter_ring.proofs.Keeping.{one-kept}
 use Rattle.rb_chapter_ring.proofs.Limits.{limited, spans-low}
@@ -98,9 +98,9 @@ module _ (r : Setup) (h : List Entry) (l : IsLegal r h) (i : ℕ) (within : i < 
   end-takes Submit = (events-next r h (Sub at_index.pos) (end-legal Submit) ∙ add-zero (events_of h), skips-next r h (Sub at_index.pos) (end-legal Submit) ∙ add-zero (skips_of h))
   end-takes Discard = (events-next r h (Dis at_index.pos) (end-legal Discard) ∙ add-zero (events_of h), skips-next r h (Dis at_index.pos) (end-legal Discard) ∙ add-zero (skips_of h))
 
-  pub end-next : (end : RecordEnd) → standing_of r (h ++ entry_of_end end at_index.pos ∷ []) ≡ with_end end i (standing_of r h)
+  pub end-next : (end : RecordEnd) → snapshot_of r (h ++ entry_of_end end at_index.pos ∷ []) ≡ with_end end i (snapshot_of r h)
   end-next end =
-      let o = standing_of r h in
+      let o = snapshot_of r h in
       let w = at_index.worker in
       let facts = end-facts end in
       let own = own-tally end ∙ ap (tally_with_end end) (sym (tally-at r h w worker-low)) in
@@ -126,7 +126,7 @@ settled-by false false free = absurd (free refl)
 -- the opening after a take, if the records are known
 pub record TakesFront (r : Setup) (h : List Entry) (ss : List Shown) : Type 0 where
   pub legal : IsLegal r (h ++ Take (consumer_of r.start h) ∷ [])
-  pub next : standing_of r (h ++ Take (consumer_of r.start h) ∷ []) ≡ with_take (record (standing_of r h) { records = ss })
+  pub next : snapshot_of r (h ++ Take (consumer_of r.start h) ∷ []) ≡ with_take (record (snapshot_of r h) { records = ss })
   pub low : consumer_of r.start h + span (get_or ss 0 no_record).len ≤ producer_of r.start h
 
 module _ (r : Setup) (h : List Entry) (l : IsLegal r h) where
@@ -169,7 +169,7 @@ by-most Waiting = omega arith
 by-most Consumed = omega arith
 by-most Discarded = omega arith
 
-pub takes-behind : (o : Standing) → IsBehindTakes o → IsBehindTakes (with_take o)
+pub takes-behind : (o : Snapshot) → IsBehindTakes o → IsBehindTakes (with_take o)
 takes-behind o low = omega (arith, low, by-most (record_in o 0).status)
 
 pub one-less : (ss : List Shown) → 0 < length ss → length (drop 1 ss) + 1 ≡ length ss
@@ -178,18 +178,18 @@ one-less (s ∷ ss) some = omega arith
 
 -- ---- in a chapter
 
-module _ (earlier : List Entry) (c : Chapter) (kept : IsKept earlier c) (closing : Standing) (is : closing ≡ closing_of c) where
+module _ (earlier : List Entry) (c : Chapter) (kept : IsKept earlier c) (closing : Snapshot) (is : closing ≡ closing_of c) where
   abbrev whole : List Entry
   whole = earlier ++ c.entries
 
-  pub at-end : closing ≡ standing_of c.opening.setup whole
+  pub at-end : closing ≡ snapshot_of c.opening.setup whole
   at-end = is ∙ ends earlier c kept.continues
 
   pub whole-legal : IsLegal c.opening.setup whole
   whole-legal = (goes-on c.opening.setup earlier c.opening kept.continues.earlier_legal kept.continues.opened c.entries).0.0 kept.continues.legal
 
   rows-same : records_from c.opening c.entries ≡ records whole
-  rows-same = ap (λ (o : Standing). o.records) (ends earlier c kept.continues)
+  rows-same = ap (λ (o : Snapshot). o.records) (ends earlier c kept.continues)
 
   follows : (e : Entry) → IsLegal c.opening.setup (whole ++ e ∷ []) → MayFollowFrom c.opening c.entries e
   follows e l =
@@ -200,15 +200,15 @@ module _ (earlier : List Entry) (c : Chapter) (kept : IsKept earlier c) (closing
       from.each c.entries e [] refl
 
   -- an entry for which there was room
-  settles : (e : Entry) (f : Standing → Standing) (now : Standing) (owing : ℕ) (d : Chapter) → IsLegal c.opening.setup (whole ++ e ∷ []) → HasRoomForEntry c e → standing_of c.opening.setup (whole ++ e ∷ []) ≡ f (standing_of c.opening.setup whole)
+  settles : (e : Entry) (f : Snapshot → Snapshot) (now : Snapshot) (owing : ℕ) (d : Chapter) → IsLegal c.opening.setup (whole ++ e ∷ []) → HasRoomForEntry c e → snapshot_of c.opening.setup (whole ++ e ∷ []) ≡ f (snapshot_of c.opening.setup whole)
       → owing ≡ owed c → now ≡ f closing → owed_for (records (whole ++ e ∷ [])) + 1 ≡ owed_for (records whole) → d ≡ with_entry c e → KeepsRunning earlier d now (owing - 1)
   settles e f now owing d l room step owes made less logged =
       let r = c.opening.setup in
       let longer = one-kept earlier c e kept (follows e l) room in
       let runs = runs-behind earlier c e closing now f kept longer is made (λ _. step) in
       let before : owed c ≡ owed_for (records whole) = ap owed_for rows-same in
-      let behind : now ≡ standing_of r (whole ++ e ∷ []) = made ∙ ap f at-end ∙ sym step in
-      let after : owed_for now.records ≡ owed_for (records (whole ++ e ∷ [])) = ap (λ (o : Standing). owed_for o.records) behind in
+      let behind : now ≡ snapshot_of r (whole ++ e ∷ []) = made ∙ ap f at-end ∙ sym step in
+      let after : owed_for now.records ≡ owed_for (records (whole ++ e ∷ [])) = ap (λ (o : Snapshot). owed_for o.records) behind in
       subst (λ x. KeepsRunning earlier x now (owing - 1)) (sym logged) (record { kept = longer; closing_is = runs.closing_is; owed_is = omega (arith, owes, before, after, less) ∙ runs.owed_is })
 
   module _ (i : ℕ) (busy : IsBusyNow c i) where
@@ -219,16 +219,16 @@ module _ (earlier : List Entry) (c : Chapter) (kept : IsKept earlier c) (closing
     held = subst (λ (ss : List Shown). (get_or ss i no_record).status ≡ Busy) rows-same busy.1
 
     same-at : record_in closing i ≡ get_or (records whole) i no_record
-    same-at = ap (λ (o : Standing). record_in o i) at-end
+    same-at = ap (λ (o : Snapshot). record_in o i) at-end
 
     pub same-now : record_in closing i ≡ record_now c i
-    same-now = ap (λ (o : Standing). record_in o i) is
+    same-now = ap (λ (o : Snapshot). record_in o i) is
 
     pub index-fits : i < length closing.records
-    index-fits = subst (λ (o : Standing). i < length o.records) (sym is) busy.0
+    index-fits = subst (λ (o : Snapshot). i < length o.records) (sym is) busy.0
 
     pub worker-fits : (record_in closing i).worker < closing.setup.workers
-    worker-fits = subst (λ (o : Standing). (record_in o i).worker < o.setup.workers) (sym at-end) (worker-low c.opening.setup whole whole-legal i within held)
+    worker-fits = subst (λ (o : Snapshot). (record_in o i).worker < o.setup.workers) (sym at-end) (worker-low c.opening.setup whole whole-legal i within held)
 
     -- its position is below the limit
     pub position-low : (record_in closing i).pos < 2 ^ 62
@@ -245,8 +245,8 @@ module _ (earlier : List Entry) (c : Chapter) (kept : IsKept earlier c) (closing
     few =
         let r = c.opening.setup in
         let w = (record_in closing i).worker in
-        let in_ring : w < r.workers = subst (λ (o : Standing). (record_in closing i).worker < o.setup.workers) at-end worker-fits in
-        let tally : tally_at closing w ≡ tally_of w whole = ap (λ (o : Standing). tally_at o w) at-end ∙ tally-at r whole w in_ring in
+        let in_ring : w < r.workers = subst (λ (o : Snapshot). (record_in closing i).worker < o.setup.workers) at-end worker-fits in
+        let tally : tally_at closing w ≡ tally_of w whole = ap (λ (o : Snapshot). tally_at o w) at-end ∙ tally-at r whole w in_ring in
         let submitted = ap (λ (t : Tally). t.submitted) tally in
         let discarded = ap (λ (t : Tally). t.discarded) tally in
         let most = settled-most r whole whole-legal w in
@@ -263,7 +263,7 @@ module _ (earlier : List Entry) (c : Chapter) (kept : IsKept earlier c) (closing
     room-for Submit p = kept.room
     room-for Discard p = kept.room
 
-    pub ended : (end : RecordEnd) (now : Standing) (owing : ℕ) (d : Chapter) → owing ≡ owed c → now ≡ with_end end i closing → d ≡ with_entry c (entry_of_end end (record_now c i).pos) → KeepsRunning earlier d now (owing - 1)
+    pub ended : (end : RecordEnd) (now : Snapshot) (owing : ℕ) (d : Chapter) → owing ≡ owed c → now ≡ with_end end i closing → d ≡ with_entry c (entry_of_end end (record_now c i).pos) → KeepsRunning earlier d now (owing - 1)
     ended end now owing d owes made logged =
         let r = c.opening.setup in
         let l = end-legal r whole whole-legal i within held end in
@@ -279,7 +279,7 @@ module _ (earlier : List Entry) (c : Chapter) (kept : IsKept earlier c) (closing
         (subst (λ (ss : List Shown). (get_or ss 0 no_record).status ≢ Busy) rows-same front.1)
 
     pub some-there : 0 < length closing.records
-    some-there = subst (λ (o : Standing). 0 < length o.records) (sym is) front.0
+    some-there = subst (λ (o : Snapshot). 0 < length o.records) (sym is) front.0
 
     -- the consumer position stays within the limit
     pub take-low : closing.consumer + span (record_in closing 0).len ≤ 2 ^ 62
@@ -287,9 +287,9 @@ module _ (earlier : List Entry) (c : Chapter) (kept : IsKept earlier c) (closing
         let r = c.opening.setup in
         let limit : consumer_of r.start whole + span (get_or (records whole) 0 no_record).len ≤ 2 ^ 62 =
         omega (arith, front-takes.low, limited r whole whole-legal (omega (arith, front-takes.low))) in
-        subst (λ (o : Standing). o.consumer + span (record_in o 0).len ≤ 2 ^ 62) (sym at-end) limit
+        subst (λ (o : Snapshot). o.consumer + span (record_in o 0).len ≤ 2 ^ 62) (sym at-end) limit
 
-    pub taken : (now : Standing) (owing : ℕ) (d : Chapter) → owing ≡ owed c → now ≡ with_take closing → d ≡ with_entry c (Take (consumer_from c.opening c.entries)) → KeepsRunning earlier d now (owing - 1)
+    pub taken : (now : Snapshot) (owing : ℕ) (d : Chapter) → owing ≡ owed c → now ≡ with_take closing → d ≡ with_entry c (Take (consumer_from c.opening c.entries)) → KeepsRunning earlier d now (owing - 1)
     taken now owing d owes made logged =
         let r = c.opening.setup in
         let p = consumer_of r.start whole in
@@ -297,7 +297,7 @@ module _ (earlier : List Entry) (c : Chapter) (kept : IsKept earlier c) (closing
         let l = front-takes.legal in
         let weighed = weigh-take entries_owed r whole k p (l.each whole (Take p) [] refl) in
         let one : entries_owed (status_by (is_submitted_at whole p) (is_discarded_at whole p) false) ≡ 1 = one-owed (is_submitted_at whole p) (is_discarded_at whole p) (l.each whole (Take p) [] refl).1 in
-        let here : consumer_from c.opening c.entries ≡ p = ap (λ (o : Standing). o.consumer) (ends earlier c kept.continues) in
+        let here : consumer_from c.opening c.entries ≡ p = ap (λ (o : Snapshot). o.consumer) (ends earlier c kept.continues) in
         settles (Take p) with_take now owing d l kept.room front-takes.next owes made (omega (arith, weighed, one)) (logged ∙ ap (λ q. with_entry c (Take q)) here)
       where
         one-owed : (s d : Bool) → (s || d) ≡ true → entries_owed (status_by s d false) ≡ 1

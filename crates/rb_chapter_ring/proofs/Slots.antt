@@ -7,7 +7,7 @@ use Rattle.rb_history.specs.declared.stored_records.StoredRecord.{StoredRecord}
 use Rattle.rb_history.specs.declared.stored_records.RecordState.TheVariants.{Submitted, Discarded as DiscardedState}
 use Rattle.rb_history.specs.History.{Shown}
 use Rattle.rb_history.specs.History.Status.{Waiting, Discarded}
-use Rattle.rb_chapter_ring.specs.Standing.{no_record}
+use Rattle.rb_chapter_ring.specs.Snapshot.{no_record}
 use Rattle.rb_chapter_ring.specs.inner.RingBody.{stored_at, stored_from}
 
 -- worked examples with eight slots, which wrap around

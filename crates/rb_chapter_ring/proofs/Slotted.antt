@@ -9,11 +9,11 @@ use Rattle.rb_history.specs.History.{Shown}
 use Rattle.rb_history.specs.StoredRecords.{shown_record}
 use Rattle.rb_history.specs.inner.RecordRows.{IsBusyAt}
 use Rattle.rb_history.proofs.Contents.{length-map}
-use Rattle.rb_chapter_ring.specs.Standing.{no_record, record_in}
+use Rattle.rb_chapter_ring.specs.Snapshot.{no_record, record_in}
 use Rattle.rb_chapter_ring.specs.Chapters.{Chapter, closing_of}
 use Rattle.rb_chapter_ring.specs.CountedFrom.{HasRoomFrom}
 use Rattle.rb_chapter_ring.specs.ChapterRoom.{MayGrant, MayRefuse, record_now, with_entry}
-use Rattle.rb_chapter_ring.specs.inner.StandingSteps.{next_record, with_end}
+use Rattle.rb_chapter_ring.specs.inner.SnapshotSteps.{next_record, with_end}
 use Rattle.rb_chapter_ring.specs.declared.record_end.RecordEnd.{RecordEnd}
 use Rattle.rb_chapter_ring.specs.declared.record_end.RecordEnd.TheVariants.{Submit, Discard}
 use Rattle.rb_chapter_ring.specs.RecordEnds.{entry_of_end}

@@ -21,13 +21,13 @@ use Rattle.rb_history.proofs.Exact.{exact-busy, exact-empty, none-there}
 use Rattle.rb_history.proofs.Steps.{Named}
 use Rattle.rb_history.proofs.Kept.{named-at}
 use Rattle.rb_history.proofs.Taking.{Taking, ring_with, state-held, takes-front, front-busy}
-use Rattle.rb_chapter_ring.specs.Standing.{no_record, record_in}
+use Rattle.rb_chapter_ring.specs.Snapshot.{no_record, record_in}
 use Rattle.rb_chapter_ring.specs.Chapters.{Chapter, closing_of}
 use Rattle.rb_chapter_ring.specs.ChapterRing.{ChapterRing, whole_ring}
 use Rattle.rb_chapter_ring.specs.ChapterRoom.{owed, HasSettledFront, with_entry}
 use Rattle.rb_chapter_ring.specs.ChapterCalls.{TakesByChapter, HasBusyFrontByChapter, AllTakenByChapter, IsSameChapter}
 use Rattle.rb_chapter_ring.specs.CountedFrom.{consumer_from}
-use Rattle.rb_chapter_ring.specs.inner.StandingSteps.{with_take, events_by, skips_by}
+use Rattle.rb_chapter_ring.specs.inner.SnapshotSteps.{with_take, events_by, skips_by}
 use Rattle.rb_chapter_ring.proofs.Alike.{calls-alike}
 use Rattle.rb_chapter_ring.proofs.Settling.{taken, takes-behind}
 use Rattle.rb_chapter_ring.specs.OpenedRing.{capped_counts}

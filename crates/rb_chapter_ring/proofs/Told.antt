@@ -10,7 +10,7 @@ use Rattle.rb_history.specs.StoredRecords.{shown_record, entries_owed}
 use Rattle.rb_history.proofs.Contents.{length-map}
 use Rattle.rb_history.proofs.Counting.{made-split}
 use Rattle.rb_history.proofs.Lists.{sum_by-cons}
-use Rattle.rb_chapter_ring.specs.Standing.{shown_count, counts_at}
+use Rattle.rb_chapter_ring.specs.Snapshot.{shown_count, counts_at}
 use Rattle.rb_chapter_ring.specs.Chapters.{Chapter, closing_of}
 use Rattle.rb_chapter_ring.specs.ChapterRoom.{owed_for, owed}
 use Rattle.rb_chapter_ring.specs.inner.Ordinals.{taken_before}

@@ -5,7 +5,7 @@ use Rattle.rb_history.specs.declared.answers.Counts.{Counts}
 use Rattle.rb_history.specs.declared.stored_records.StoredRecord.{StoredRecord}
 use Rattle.rb_history.specs.Counting.{counts_of}
 use Rattle.rb_history.specs.RingModel.{IsRingSize, IsStartPosition, IsWorkerCount}
-use Rattle.rb_chapter_ring.specs.Standing.{Standing}
+use Rattle.rb_chapter_ring.specs.Snapshot.{Snapshot}
 use Rattle.rb_chapter_ring.specs.Chapters.{Chapter, IsChapterRoom, closing_of, Meets}
 use Rattle.rb_chapter_ring.specs.ChapterRing.{ChapterRing}
 use Rattle.rb_chapter_ring.specs.ChapterCalls.{HandsOut}
@@ -21,7 +21,7 @@ module _ (earlier : List Entry) (c : Chapter) (stored : List StoredRecord) (coun
   closing-same = closing-none (earlier ++ c.entries) d (next-room earlier c d g.kept.continues g.kept.room meets none room).1 none ∙ meets.goes_on
 
   setup-same : d.opening.setup ≡ c.opening.setup
-  setup-same = ap (λ (o : Standing). o.setup) meets.goes_on
+  setup-same = ap (λ (o : Snapshot). o.setup) meets.goes_on
 
   pub turn-keeps : IsRingOf (earlier ++ c.entries) d stored counts
   turn-keeps =
@@ -44,8 +44,8 @@ module _ (earlier : List Entry) (c : Chapter) (stored : List StoredRecord) (coun
     next = record { out_is = refl; next_is = meets; no_entries = none; room_same = room };
     contents_same = refl;
     shown_same = refl;
-    producer_same = ap (λ (o : Standing). o.producer) closing-same;
-    consumer_same = ap (λ (o : Standing). o.consumer) closing-same;
+    producer_same = ap (λ (o : Snapshot). o.producer) closing-same;
+    consumer_same = ap (λ (o : Snapshot). o.consumer) closing-same;
   }
 
 -- ---- the chapters in which it may continue

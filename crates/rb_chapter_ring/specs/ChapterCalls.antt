@@ -7,7 +7,7 @@ use Rattle.rb_history.specs.declared.answers.Taken.{Taken}
 use Rattle.rb_history.specs.declared.answers.Taken.TheVariants.{Event, Skipped, BusyFront, Empty}
 use Rattle.rb_history.specs.History.Status.{Busy, Waiting, Discarded}
 use Rattle.rb_history.specs.ReservationModel.{Granted}
-use Rattle.rb_chapter_ring.specs.Standing.{Standing}
+use Rattle.rb_chapter_ring.specs.Snapshot.{Snapshot}
 use Rattle.rb_chapter_ring.specs.CountedFrom.{producer_from, consumer_from, grants_from, is_granted_from, status_from, HasRoomFrom}
 use Rattle.rb_chapter_ring.specs.Chapters.{Chapter, Meets}
 use Rattle.rb_chapter_ring.specs.ChapterRoom.{MayGrant, MayRefuse}
@@ -25,7 +25,7 @@ abbrev pub ChapterRingHasRoom : ChapterRing → ℕ → Type 0
 ChapterRingHasRoom v n = HasRoomFrom v.chapter.opening v.chapter.entries n
 
 -- a record with these four numbers is busy
-pub record IsBusyFrom (o : Standing) (h : List Entry) (p w k n : ℕ) : Type 0 where
+pub record IsBusyFrom (o : Snapshot) (h : List Entry) (p w k n : ℕ) : Type 0 where
   pub granted_is : IsGranted o h w k n p
   pub busy : status_from o h p ≡ Busy
 

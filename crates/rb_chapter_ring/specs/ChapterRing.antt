@@ -7,7 +7,7 @@ use Rattle.rb_history.specs.declared.entries.Entry.TheVariants.{Res}
 use Rattle.rb_history.specs.History.{Shown, Status}
 use Rattle.rb_history.specs.History.Status.{Waiting}
 use Rattle.rb_history.specs.RingModel.{Ring, Contents}
-use Rattle.rb_chapter_ring.specs.Standing.{Standing}
+use Rattle.rb_chapter_ring.specs.Snapshot.{Snapshot}
 use Rattle.rb_chapter_ring.specs.CountedFrom.{producer_from, consumer_from, records_from, status_from}
 use Rattle.rb_chapter_ring.specs.Chapters.{Chapter}
 
@@ -24,11 +24,11 @@ abbrev pub IsShown : List Shown → ℕ → ℕ → ℕ → ℕ → Type 0
 IsShown ss w k n p = (st : Status) × Contains ss (record { pos = p; len = n; worker = w; serial = k; status = st })
 
 -- a record with these numbers is one of the opening's, or was granted since
-abbrev pub IsGranted : Standing → List Entry → ℕ → ℕ → ℕ → ℕ → Type 0
+abbrev pub IsGranted : Snapshot → List Entry → ℕ → ℕ → ℕ → ℕ → Type 0
 IsGranted o h w k n p = IsShown o.records w k n p ⊎ Contains h (Res w k n p)
 
 -- the record at p has n bytes
-abbrev pub HasLengthFrom : Standing → List Entry → ℕ → ℕ → Type 0
+abbrev pub HasLengthFrom : Snapshot → List Entry → ℕ → ℕ → Type 0
 HasLengthFrom o h p n = (w : ℕ) × ((k : ℕ) × IsGranted o h w k n p)
 
 -- The ring shows exactly the records without a Take, in order, and both positions. The contents are those of the

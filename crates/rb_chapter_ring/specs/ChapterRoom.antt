@@ -8,7 +8,7 @@ use Rattle.rb_history.specs.declared.entries.Entry.TheVariants.{Res, Full}
 use Rattle.rb_history.specs.History.{Shown}
 use Rattle.rb_history.specs.History.Status.{Busy}
 use Rattle.rb_history.specs.StoredRecords.{entries_owed}
-use Rattle.rb_chapter_ring.specs.Standing.{no_record}
+use Rattle.rb_chapter_ring.specs.Snapshot.{no_record}
 use Rattle.rb_chapter_ring.specs.CountedFrom.{records_from, tally_from}
 use Rattle.rb_chapter_ring.specs.Chapters.{Chapter}
 

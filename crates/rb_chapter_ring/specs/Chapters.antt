@@ -13,14 +13,14 @@ use Rattle.std.specs.Prelude.{ℕ, ◌≡◌, ◌+◌, ◌≤◌, List, [], ◌�
 use Rattle.std.specs.List.{flat_map}
 use Rattle.rb_history.specs.declared.entries.Entry.{Entry}
 use Rattle.rb_history.specs.RoomRule.{Setup}
-use Rattle.rb_chapter_ring.specs.Standing.{Standing, no_tally}
-use Rattle.rb_chapter_ring.specs.CountedFrom.{standing_after, IsLegalFrom}
+use Rattle.rb_chapter_ring.specs.Snapshot.{Snapshot, no_tally}
+use Rattle.rb_chapter_ring.specs.CountedFrom.{snapshot_after, IsLegalFrom}
 
 -- a chapter: its number, its room in entries, the summary of what was before it, and its entries
 pub record Chapter : Type 0 where
   pub number : ℕ
   pub room : ℕ
-  pub opening : Standing
+  pub opening : Snapshot
   pub entries : List Entry
 
 -- the possible rooms of a chapter
@@ -28,7 +28,7 @@ abbrev pub IsChapterRoom : ℕ → Type 0
 IsChapterRoom room = (8 ≤ room) × (room ≤ 1048576)
 
 -- the opening of a new ring: no records or totals, and both positions at the start
-abbrev pub empty_ring : Setup → Standing
+abbrev pub empty_ring : Setup → Snapshot
 empty_ring r = record {
   setup = r;
   producer = r.start;
@@ -48,8 +48,8 @@ abbrev pub empty_chapter : ℕ → ℕ → Chapter
 empty_chapter room workers = record { number = 0; room = room; opening = empty_ring (record { size = 0; start = 0; workers = workers }); entries = [] }
 
 -- the summary at a chapter's end
-abbrev pub closing_of : Chapter → Standing
-closing_of c = standing_after c.opening c.entries
+abbrev pub closing_of : Chapter → Snapshot
+closing_of c = snapshot_after c.opening c.entries
 
 -- the later chapter begins where the earlier one ends
 pub record Meets (earlier later : Chapter) : Type 0 where

@@ -2,8 +2,8 @@ pub mod Hands
 pub mod HandRing
 pub mod RecordEnds
 pub mod HandLaws
-pub mod Standing
-pub mod StandingValue
+pub mod Snapshot
+pub mod SnapshotValue
 pub mod CountedFrom
 pub mod Chapters
 pub mod ChapterEntries

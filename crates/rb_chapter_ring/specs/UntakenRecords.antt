@@ -1,9 +1,9 @@
 -- What an opening's records show.
 use Rattle.rb_history.specs.History.{Shown, Status}
 use Rattle.rb_history.specs.History.Status.{Busy, Waiting, Discarded}
-use Rattle.rb_chapter_ring.specs.declared.standing.UntakenRecord.{UntakenRecord}
-use Rattle.rb_chapter_ring.specs.declared.standing.UntakenStatus.{UntakenStatus}
-use Rattle.rb_chapter_ring.specs.declared.standing.UntakenStatus.TheVariants.{Busy as IsBusy, Waiting as IsWaiting, Discarded as IsDiscarded}
+use Rattle.rb_chapter_ring.specs.declared.snapshot.UntakenRecord.{UntakenRecord}
+use Rattle.rb_chapter_ring.specs.declared.snapshot.UntakenStatus.{UntakenStatus}
+use Rattle.rb_chapter_ring.specs.declared.snapshot.UntakenStatus.TheVariants.{Busy as IsBusy, Waiting as IsWaiting, Discarded as IsDiscarded}
 
 abbrev pub status_shown : UntakenStatus → Status
 status_shown IsBusy = Busy

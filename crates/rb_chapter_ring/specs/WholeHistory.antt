@@ -14,8 +14,8 @@ use Rattle.rb_history.specs.RoomRule.{Setup, HasRoomFor}
 use Rattle.rb_history.specs.Legal.{IsLegal}
 use Rattle.rb_history.specs.RingModel.{StandsFor}
 use Rattle.rb_history.specs.Calls.{IsBusy, RingHasRoom, Grants as WholeGrants, FindsFull as WholeFindsFull, Outputs as WholeOutputs, Submits as WholeSubmits, Discards as WholeDiscards, Strays as WholeStrays, Takes as WholeTakes, HasBusyFront as WholeHasBusyFront, AllTaken as WholeAllTaken}
-use Rattle.rb_chapter_ring.specs.Standing.{Standing, standing_of}
-use Rattle.rb_chapter_ring.specs.CountedFrom.{standing_after, counts_from, query_answer_from, status_from, HasRoomFrom, MayFollowFrom, IsLegalFrom}
+use Rattle.rb_chapter_ring.specs.Snapshot.{Snapshot, snapshot_of}
+use Rattle.rb_chapter_ring.specs.CountedFrom.{snapshot_after, counts_from, query_answer_from, status_from, HasRoomFrom, MayFollowFrom, IsLegalFrom}
 use Rattle.rb_chapter_ring.specs.Chapters.{Chapter, closing_of, Meets, AreChaptersOf, joined, last_of}
 use Rattle.rb_chapter_ring.specs.ChapterRoom.{HasRoomForEntry, HasRoomForOwed, MayGrant, MayRefuse, with_entry}
 use Rattle.rb_chapter_ring.specs.ChapterRing.{ChapterRing, IsGranted, StandsForChapter, whole_ring}
@@ -24,8 +24,8 @@ use Rattle.rb_chapter_ring.specs.ChapterCalls.{IsBusyFrom, IsSameChapter, IsNext
 -- What is counted from the opening o agrees with the whole history: both positions, the records, and the totals of each
 -- worker and of the consumer, which make up the next opening; the counts, the answers to a query and the room; and, for
 -- records that h did not take, their worker and their status.
-pub record IsSameFrom (r : Setup) (h : List Entry) (o : Standing) (t : List Entry) : Type 0 where
-  pub stands : standing_after o t ≡ standing_of r (h ++ t)
+pub record IsSameFrom (r : Setup) (h : List Entry) (o : Snapshot) (t : List Entry) : Type 0 where
+  pub stands : snapshot_after o t ≡ snapshot_of r (h ++ t)
   pub counts : counts_from o t ≡ counts_of (h ++ t)
   pub query : (q : ℕ) → query_answer_from o t q ≡ query_answer r (h ++ t) q
   pub fits : (n : ℕ) → HasRoomFrom o t n ↔ HasRoomFor r (h ++ t) n
@@ -38,7 +38,7 @@ pub record IsSameFrom (r : Setup) (h : List Entry) (o : Standing) (t : List Entr
 -- then both agree
 abbrev pub CountedFromOpening : Type 0
 CountedFromOpening =
-    (r : Setup) (h : List Entry) (o : Standing) → IsLegal r h → o ≡ standing_of r h → (t : List Entry)
+    (r : Setup) (h : List Entry) (o : Snapshot) → IsLegal r h → o ≡ snapshot_of r h → (t : List Entry)
     → (IsLegalFrom o t ↔ IsLegal r (h ++ t)) × (IsLegalFrom o t → IsSameFrom r h o t)
 
 -- ---- chapters that meet
@@ -46,7 +46,7 @@ CountedFromOpening =
 -- the chapters join to a legal history, whose summary is the one at the end of the last chapter
 pub record Join (r : Setup) (first : Chapter) (rest : List Chapter) : Type 0 where
   pub legal : IsLegal r (joined (first ∷ rest))
-  pub stands : closing_of (last_of first rest) ≡ standing_of r (joined (first ∷ rest))
+  pub stands : closing_of (last_of first rest) ≡ snapshot_of r (joined (first ∷ rest))
 
 abbrev pub ChaptersJoin : Type 0
 ChaptersJoin = (r : Setup) (first : Chapter) (rest : List Chapter) → AreChaptersOf r first rest → Join r first rest
@@ -63,7 +63,7 @@ pub record Binds (chapters : List Chapter) (last : Chapter) : Type 0 where
 pub record IsBound (chapters : List Chapter) (last : Chapter) (history : List Entry) : Type 0 where
   pub entries : history ≡ joined chapters ++ last.entries
   pub legal : IsLegal last.opening.setup history
-  pub stands : closing_of last ≡ standing_of last.opening.setup history
+  pub stands : closing_of last ≡ snapshot_of last.opening.setup history
 
 abbrev pub OnceBound : Type 0
 OnceBound = (chapters : List Chapter) (last : Chapter) → Binds chapters last → IsBound chapters last (joined (chapters ++ last ∷ []))
@@ -74,7 +74,7 @@ OnceBound = (chapters : List Chapter) (last : Chapter) → Binds chapters last �
 -- its opening
 pub record ContinuesHistory (earlier : List Entry) (c : Chapter) : Type 0 where
   pub earlier_legal : IsLegal c.opening.setup earlier
-  pub opened : c.opening ≡ standing_of c.opening.setup earlier
+  pub opened : c.opening ≡ snapshot_of c.opening.setup earlier
   pub legal : IsLegalFrom c.opening c.entries
 
 -- after an entry that may follow there is room for everything that is then owed, if and only if there was room for the

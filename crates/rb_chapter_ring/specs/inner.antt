@@ -1,9 +1,9 @@
-pub mod StandingNumbers
-pub mod StandingBody
+pub mod SnapshotNumbers
+pub mod SnapshotBody
 pub mod EntryWords
 pub mod ChapterBody
 pub mod EndSteps
-pub mod StandingSteps
+pub mod SnapshotSteps
 pub mod Ordinals
 pub mod ChapterSteps
 pub mod RingBody

@@ -12,12 +12,12 @@ ghost use Rattle.rb_chapter_ring.specs.WholeHistory.{IsKept};
 ghost use Rattle.rb_chapter_ring.specs.RecordEnds.{entry_of_end};
 ghost use Rattle.rb_chapter_ring.specs.inner.ChapterSteps.{GrantsRecord, RefusesRecord, refused_after};
 
-use crate::counting::count_refusal;
 use crate::entries::Entries;
 use crate::entry_words::{end_word, grant_word, refusal_word, take_word};
 use crate::faults::ReserveFault;
 use crate::record_end::RecordEnd;
-use crate::standing::Standing;
+use crate::ring_counts::count_refusal;
+use crate::snapshot::Snapshot;
 use rb_history::{POSITION_LIMIT, span};
 use std::alloc::{AllocError, Global};
 use std::marker::Model;
@@ -30,12 +30,12 @@ pub const COUNT_LIMIT: u64 = POSITION_LIMIT;
 pub struct Chapter {
     number: u64,
     room: u32,
-    opening: Standing,
+    opening: Snapshot,
     // The entries, eight bytes each.
     words: Vec<u64>,
     // The summary at its end, and how many entries it owes then. Both are stored, so that neither has to be computed
     // from the entries.
-    closing: Standing,
+    closing: Snapshot,
     owed: u32,
 }
 
@@ -69,9 +69,9 @@ impl Chapter {
         Ok(Chapter {
             number: 0,
             room,
-            opening: Standing::of_zeros(alloc, room, workers)?,
+            opening: Snapshot::of_zeros(alloc, room, workers)?,
             words: Vec::with_capacity(alloc, room as usize)?,
-            closing: Standing::of_zeros(alloc, room, workers)?,
+            closing: Snapshot::of_zeros(alloc, room, workers)?,
             owed: 0,
         })
     }
@@ -237,7 +237,7 @@ impl Chapter {
     }
 
     /// Returns the opening. It has memory for as many untaken records as the chapter has room for entries.
-    pub fn opening(&self) -> &Standing
+    pub fn opening(&self) -> &Snapshot
         ensures opening { result.now.opening ≡ self.now.opening }
         ensures room { self.now.room ≤ result.now.room }
     {
@@ -246,7 +246,7 @@ impl Chapter {
 
     /// Returns the summary at the chapter's end, which is the opening of the next chapter. Takes constant time, since a
     /// chapter stores it beside the entries.
-    pub fn closing(&self) -> &Standing
+    pub fn closing(&self) -> &Snapshot
         ensures closing { result.now.opening ≡ closing_of self.now }
         ensures room { self.now.room ≤ result.now.room }
     {

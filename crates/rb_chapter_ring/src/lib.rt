@@ -28,7 +28,7 @@
 //! # Chapters
 //!
 //! A ring's history is divided into numbered chapters, and a chapter's opening is a summary of everything before it.
-//! `Chapter` is a chapter as a value: its number, its opening (`specs/Standing.antt`: both positions, the records that
+//! `Chapter` is a chapter as a value: its number, its opening (`specs/Snapshot.antt`: both positions, the records that
 //! were not taken, and the totals so far) and its entries (`specs/Chapters.antt` has a drawing).
 //! `specs/CountedFrom.antt` defines what entries mean when they are counted from an opening, `specs/ChapterRoom.antt`
 //! how many a chapter has room for, and `specs/ChapterCalls.antt` what each call adds.
@@ -69,21 +69,21 @@
 
 mod chapter;
 mod chapter_laws;
-mod counting;
 mod entries;
 mod entry_words;
 mod faults;
-mod finding;
 mod hand_laws;
 mod hand_table;
 mod hands;
 mod out_record;
 mod record_end;
+mod record_slots;
 mod reservation;
 mod ring;
+mod ring_counts;
 mod setup;
-mod standing;
-mod standing_lists;
+mod snapshot;
+mod snapshot_lists;
 
 pub use chapter::{COUNT_LIMIT, Chapter};
 pub use chapter_laws::{calls_are_alike, chapters_join, counted_from_the_opening, room_is_kept};
@@ -95,4 +95,4 @@ pub use out_record::OutRecord;
 pub use record_end::RecordEnd;
 pub use reservation::Reservation;
 pub use ring::RingState;
-pub use standing::{Standing, StandingNumbers, UntakenRecord, UntakenStatus};
+pub use snapshot::{Snapshot, SnapshotNumbers, UntakenRecord, UntakenStatus};

@@ -12,7 +12,7 @@ use Rattle.rb_history.specs.inner.RecordRows.{InRow}
 use Rattle.rb_history.proofs.Laws.{KeptAs, kept-from-legal}
 use Rattle.rb_history.proofs.Row.{get_or-default}
 use Rattle.rb_history.proofs.Steps.{shown-contains}
-use Rattle.rb_chapter_ring.specs.Standing.{Standing, no_record}
+use Rattle.rb_chapter_ring.specs.Snapshot.{Snapshot, no_record}
 use Rattle.rb_chapter_ring.specs.ChapterCalls.{TakesByChapter}
 use Rattle.rb_chapter_ring.specs.ChapterRing.{ChapterRing}
 use Rattle.rb_chapter_ring.specs.ChapterRoom.{record_now}
@@ -43,7 +43,7 @@ front-waits earlier v new p w k bytes kept takes =
     let h = earlier ++ c.entries in
     let event = (((calls-alike earlier v.ring new kept.continues).takes (Event p w k bytes)).0 takes).1 in
     let facts : KeptAs r h = kept-from-legal r h ((goes-on r earlier c.opening kept.continues.earlier_legal kept.continues.opened c.entries).0.0 kept.continues.legal) in
-    let shown : records_from c.opening c.entries ≡ records h = ap (λ (o : Standing). o.records) (ends earlier c kept.continues) in
+    let shown : records_from c.opening c.entries ≡ records h = ap (λ (o : Snapshot). o.records) (ends earlier c kept.continues) in
     let at : p ≡ consumer_of r.start h = event.front in
     let free : is_taken_at h p ≡ false = false_from_ne_true (is_taken_at h p) (λ t. omega (arith, facts.passed p t, at)) in
     let x : Shown = record { pos = p; len = length bytes; worker = w; serial = k; status = status_by (is_submitted_at h p) (is_discarded_at h p) false } in

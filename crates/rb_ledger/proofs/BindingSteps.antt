@@ -5,7 +5,7 @@ use Rattle.std.proofs.lemmas.List.{length-map}
 use Rattle.rb_history.specs.declared.entries.Entry.{Entry}
 use Rattle.rb_history.specs.declared.tally.Tally.{Tally}
 use Rattle.rb_history.specs.WorkerCounts.{tally_of, numbers_below}
-use Rattle.rb_chapter_ring.specs.Standing.{Standing, no_tally}
+use Rattle.rb_chapter_ring.specs.Snapshot.{Snapshot, no_tally}
 use Rattle.rb_chapter_ring.specs.Chapters.{Chapter, empty_ring, IsLegalChapter, joined}
 use Rattle.rb_chapter_ring.specs.WholeHistory.{Binds, IsBound, IsKept}
 use Rattle.rb_chapter_ring.proofs.Bound.{once-bound}
@@ -54,19 +54,19 @@ none-mapped f (x ∷ xs) none = absurd (omega (arith, none))
 -- a chapter's opening has totals for each worker
 tallies-of-kept : (earlier : List Entry) (c : Chapter) → IsKept earlier c → length c.opening.tallies ≡ c.opening.setup.workers
 tallies-of-kept earlier c kept =
-    ap (λ (o : Standing). length o.tallies) kept.continues.opened ∙ length-map (numbers_below c.opening.setup.workers) (λ w. tally_of w earlier) ∙ length-below c.opening.setup.workers
+    ap (λ (o : Snapshot). length o.tallies) kept.continues.opened ∙ length-map (numbers_below c.opening.setup.workers) (λ w. tally_of w earlier) ∙ length-below c.opening.setup.workers
 
-pub opens-exact : (c : Chapter) (o : Standing) (b : Bool) (ts : List Tally) → o ≡ c.opening → (earlier : List Entry) × IsKept earlier c → o.producer ≡ o.setup.start → o.consumer ≡ o.setup.start → o.consumed ≡ 0 → o.skipped ≡ 0 → o.records ≡ []
+pub opens-exact : (c : Chapter) (o : Snapshot) (b : Bool) (ts : List Tally) → o ≡ c.opening → (earlier : List Entry) × IsKept earlier c → o.producer ≡ o.setup.start → o.consumer ≡ o.setup.start → o.consumed ≡ 0 → o.skipped ≡ 0 → o.records ≡ []
     → ts ≡ o.tallies → IsTrue b ↔ (ts ≡ replicate (length ts) no_tally) → IsTrue b ↔ (c.opening ≡ empty_ring c.opening.setup)
 opens-exact c o b ts same kept producer consumer consumed skipped none are exact =
-    let workers : length o.tallies ≡ o.setup.workers = ap (λ (x : Standing). length x.tallies) same ∙ tallies-of-kept kept.0 c kept.1 ∙ ap (λ (x : Standing). x.setup.workers) (sym same) in
+    let workers : length o.tallies ≡ o.setup.workers = ap (λ (x : Snapshot). length x.tallies) same ∙ tallies-of-kept kept.0 c kept.1 ∙ ap (λ (x : Snapshot). x.setup.workers) (sym same) in
     let here : IsTrue b ↔ (o ≡ empty_ring o.setup) = (
       (λ t.
           let all : o.tallies ≡ replicate o.setup.workers no_tally = sym are ∙ exact.0 t ∙ ap (λ n. replicate n no_tally) (ap length are ∙ workers) in
           λ i. record { setup = o.setup; producer = producer i; consumer = consumer i; records = none i; tallies = all i; consumed = consumed i; skipped = skipped i }),
-      (λ e. exact.1 (are ∙ ap (λ (x : Standing). x.tallies) e ∙ ap (λ n. replicate n no_tally) (sym (ap length are ∙ workers)))),
+      (λ e. exact.1 (are ∙ ap (λ (x : Snapshot). x.tallies) e ∙ ap (λ n. replicate n no_tally) (sym (ap length are ∙ workers)))),
     ) in
-    subst (λ (x : Standing). IsTrue b ↔ (x ≡ empty_ring x.setup)) same here
+    subst (λ (x : Snapshot). IsTrue b ↔ (x ≡ empty_ring x.setup)) same here
 
 follows-each : (c : Chapter) (cs : List Chapter) → EachMeets c cs → EachFollows c cs
 follows-each c [] m = tt

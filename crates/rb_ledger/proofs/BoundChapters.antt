@@ -11,7 +11,7 @@ use Rattle.rb_history.specs.RingModel.{Ring}
 use Rattle.rb_history.specs.WorkerCounts.{tally_of, serials_of, numbers_below}
 use Rattle.rb_history.proofs.Laws.{kept-none, legal-front}
 use Rattle.rb_history.proofs.Serials.{serials-ordered}
-use Rattle.rb_chapter_ring.specs.Standing.{Standing, standing_of, tally_at, counts_at}
+use Rattle.rb_chapter_ring.specs.Snapshot.{Snapshot, snapshot_of, tally_at, counts_at}
 use Rattle.rb_chapter_ring.specs.Chapters.{Chapter, empty_ring, closing_of, IsLegalChapter, AreMeeting, joined}
 use Rattle.rb_chapter_ring.specs.ChapterRing.{ChapterRing}
 use Rattle.rb_chapter_ring.specs.WholeHistory.{Binds, IsBound, ContinuesHistory}
@@ -32,28 +32,28 @@ use Rattle.rb_ledger.specs.inner.BindingLoops.{EachFollows, AreOpenedInTurn}
 -- ---- chapters that continue the empty history are those that are opened in turn
 
 follows-setup : (c : Chapter) (cs : List Chapter) (last : Chapter) → EachFollows c (cs ++ last ∷ []) → last.opening.setup ≡ c.opening.setup
-follows-setup c [] last follow = ap (λ (o : Standing). o.setup) follow.0
-follows-setup c (d ∷ cs) last follow = follows-setup d cs last follow.1 ∙ ap (λ (o : Standing). o.setup) follow.0
+follows-setup c [] last follow = ap (λ (o : Snapshot). o.setup) follow.0
+follows-setup c (d ∷ cs) last follow = follows-setup d cs last follow.1 ∙ ap (λ (o : Snapshot). o.setup) follow.0
 
 -- the opening of an empty ring is the one of its own setup
-own-setup : (o : Standing) (r : Setup) → o ≡ empty_ring r → o ≡ empty_ring o.setup
-own-setup o r is = is ∙ ap empty_ring (sym (ap (λ (x : Standing). x.setup) is))
+own-setup : (o : Snapshot) (r : Setup) → o ≡ empty_ring r → o ≡ empty_ring o.setup
+own-setup o r is = is ∙ ap empty_ring (sym (ap (λ (x : Snapshot). x.setup) is))
 
 all-and : (cs : List Chapter) (last : Chapter) → AllLegal cs → IsLegalChapter last → AllLegal (cs ++ last ∷ [])
 all-and [] last legal at_last = (at_last, tt)
 all-and (c ∷ cs) last legal at_last = (legal.0, all-and cs last legal.1 at_last)
 
 -- a legal chapter whose opening is the summary of a legal history ends with the summary of both
-ends-with : (r : Setup) (h : List Entry) (c : Chapter) → IsLegal r h → c.opening ≡ standing_of r h → IsLegalChapter c → IsLegal r (h ++ c.entries) × (closing_of c ≡ standing_of r (h ++ c.entries))
+ends-with : (r : Setup) (h : List Entry) (c : Chapter) → IsLegal r h → c.opening ≡ snapshot_of r h → IsLegalChapter c → IsLegal r (h ++ c.entries) × (closing_of c ≡ snapshot_of r (h ++ c.entries))
 ends-with r h c l opened legal = let both = goes-on r h c.opening l opened c.entries in (both.0.0 legal, (both.1 legal).stands)
 
-goes-follow : (r : Setup) (h : List Entry) (c : Chapter) (cs : List Chapter) → IsLegal r h → c.opening ≡ standing_of r h → IsLegalChapter c → AllLegal cs → EachGoesOn r (h ++ c.entries) cs → EachFollows c cs
+goes-follow : (r : Setup) (h : List Entry) (c : Chapter) (cs : List Chapter) → IsLegal r h → c.opening ≡ snapshot_of r h → IsLegalChapter c → AllLegal cs → EachGoesOn r (h ++ c.entries) cs → EachFollows c cs
 goes-follow r h c [] l opened legal all goes = tt
 goes-follow r h c (d ∷ ds) l opened legal all goes =
     let ends = ends-with r h c l opened legal in
     (goes.0 ∙ sym ends.1, goes-follow r (h ++ c.entries) d ds ends.0 goes.0 all.0 all.1 goes.1)
 
-follow-goes : (r : Setup) (h : List Entry) (c : Chapter) (cs : List Chapter) → IsLegal r h → c.opening ≡ standing_of r h → IsLegalChapter c → AllLegal cs → EachFollows c cs → EachGoesOn r (h ++ c.entries) cs
+follow-goes : (r : Setup) (h : List Entry) (c : Chapter) (cs : List Chapter) → IsLegal r h → c.opening ≡ snapshot_of r h → IsLegalChapter c → AllLegal cs → EachFollows c cs → EachGoesOn r (h ++ c.entries) cs
 follow-goes r h c [] l opened legal all follow = tt
 follow-goes r h c (d ∷ ds) l opened legal all follow =
     let ends = ends-with r h c l opened legal in
@@ -64,7 +64,7 @@ pub in-turn-goes : (cs : List Chapter) (last : Chapter) → AllLegal cs → IsLe
 in-turn-goes [] last legal at_last o = (o.0 ∙ empty-is last.opening.setup, tt)
 in-turn-goes (c ∷ cs) last legal at_last o =
     let r = last.opening.setup in
-    let opened : c.opening ≡ standing_of r [] = o.0 ∙ ap empty_ring (sym (follows-setup c cs last o.1)) ∙ empty-is r in
+    let opened : c.opening ≡ snapshot_of r [] = o.0 ∙ ap empty_ring (sym (follows-setup c cs last o.1)) ∙ empty-is r in
     (opened, follow-goes r [] c (cs ++ last ∷ []) (kept-none r).legal opened legal.0 (all-and cs last legal.1 at_last) o.1)
 
 pub goes-in-turn : (cs : List Chapter) (last : Chapter) → AllLegal cs → IsLegalChapter last → EachGoesOn last.opening.setup [] (cs ++ last ∷ []) → AreOpenedInTurn (cs ++ last ∷ [])
@@ -132,9 +132,9 @@ closed-ties r seats consumer closed = record {
   balanced = closed.balanced;
 }
 
-opens-behind : (r : Setup) (h : List Entry) (cs : List Chapter) (last : Chapter) → EachGoesOn r h (cs ++ last ∷ []) → last.opening ≡ standing_of r (h ++ joined cs)
-opens-behind r h [] last goes = goes.0 ∙ ap (standing_of r) (sym (append-nil h))
-opens-behind r h (c ∷ cs) last goes = opens-behind r (h ++ c.entries) cs last goes.1 ∙ ap (standing_of r) (append_assoc h c.entries (joined cs))
+opens-behind : (r : Setup) (h : List Entry) (cs : List Chapter) (last : Chapter) → EachGoesOn r h (cs ++ last ∷ []) → last.opening ≡ snapshot_of r (h ++ joined cs)
+opens-behind r h [] last goes = goes.0 ∙ ap (snapshot_of r) (sym (append-nil h))
+opens-behind r h (c ∷ cs) last goes = opens-behind r (h ++ c.entries) cs last goes.1 ∙ ap (snapshot_of r) (append_assoc h c.entries (joined cs))
 
 -- the last chapter continues those that were handed out
 pub gathered-continues : (last : ChapterRing) (seats : List WorkerSeat) (consumer : ChapterConsumerSeat) → IsGatheredByChapters last seats consumer → ContinuesHistory (joined consumer.handed_out) last.chapter
@@ -143,7 +143,7 @@ gathered-continues last seats consumer g =
     let earlier = joined consumer.handed_out in
     let legal : IsLegal r (earlier ++ last.chapter.entries) = g.gathered.sequential.legal in
     let front = legal-front r earlier last.chapter.entries legal in
-    let opened : last.chapter.opening ≡ standing_of r earlier = opens-behind r [] consumer.handed_out last.chapter g.may_bind.opened in
+    let opened : last.chapter.opening ≡ snapshot_of r earlier = opens-behind r [] consumer.handed_out last.chapter g.may_bind.opened in
     record { earlier_legal = front; opened = opened; legal = (goes-on r earlier last.chapter.opening front opened last.chapter.entries).0.1 legal }
 
 front-legal : (r : Setup) (h : List Entry) (cs : List Chapter) (last : Chapter) → EachGoesOn r h (cs ++ last ∷ []) → IsLegal r (h ++ joined cs) → AllLegal cs
@@ -164,7 +164,7 @@ module _ (last : ChapterRing) (seats : List WorkerSeat) (consumer : ChapterConsu
   whole : List Entry
   whole = joined consumer.handed_out ++ last.chapter.entries
 
-  same : standing_of last.chapter.opening.setup (joined consumer.handed_out ++ last.chapter.entries) ≡ standing_of last.chapter.opening.setup history
+  same : snapshot_of last.chapter.opening.setup (joined consumer.handed_out ++ last.chapter.entries) ≡ snapshot_of last.chapter.opening.setup history
   same =
       let is = gathered-continues last seats consumer g in
       sym ((goes-on last.chapter.opening.setup (joined consumer.handed_out) last.chapter.opening is.earlier_legal is.opened last.chapter.entries).1 is.legal).stands ∙ b.stands
@@ -182,9 +182,9 @@ module _ (last : ChapterRing) (seats : List WorkerSeat) (consumer : ChapterConsu
   taker-ties =
       let ties = g.tied.consumer_ties in
       record {
-        consumed_is = ties.consumed_is ∙ ap (λ (o : Standing). o.consumed) same;
-        skipped_is = ties.skipped_is ∙ ap (λ (o : Standing). o.skipped) same;
-        position_is = ties.position_is ∙ ap (λ (o : Standing). o.consumer) same;
+        consumed_is = ties.consumed_is ∙ ap (λ (o : Snapshot). o.consumed) same;
+        skipped_is = ties.skipped_is ∙ ap (λ (o : Snapshot). o.skipped) same;
+        position_is = ties.position_is ∙ ap (λ (o : Snapshot). o.consumer) same;
       }
 
   counts-same : counts_of (joined consumer.handed_out ++ last.chapter.entries) ≡ counts_of history

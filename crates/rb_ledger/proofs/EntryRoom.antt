@@ -6,7 +6,7 @@ use Rattle.rb_history.specs.declared.tally.Tally.{Tally}
 use Rattle.rb_history.specs.WorkerCounts.{tally_of}
 use Rattle.rb_history.specs.RingModel.{Ring}
 use Rattle.rb_history.specs.Calls.{Grants as WholeGrants, FindsFull as WholeFindsFull, Outputs as WholeOutputs}
-use Rattle.rb_chapter_ring.specs.Standing.{Standing, tally_at}
+use Rattle.rb_chapter_ring.specs.Snapshot.{Snapshot, tally_at}
 use Rattle.rb_chapter_ring.specs.CountedFrom.{tally_from}
 use Rattle.rb_chapter_ring.specs.Chapters.{Chapter, IsChapterRoom, joined}
 use Rattle.rb_chapter_ring.specs.ChapterRoom.{used, owed, owed_for, HasRoomForOwed, MayGrant, MayRefuse}
@@ -34,7 +34,7 @@ totals-are earlier old new w is low =
 
 module _ (earlier : List Entry) (old new : ChapterRing) (is : ContinuesHistory earlier old.chapter) where
   owed-same : owed_by (whole_ring earlier old) ≡ owed old.chapter
-  owed-same = sym (ap (λ (o : Standing). owed_for o.records) (said earlier old new is).stands)
+  owed-same = sym (ap (λ (o : Snapshot). owed_for o.records) (said earlier old new is).stands)
 
   module _ (room cut : ℕ) (room_is : old.chapter.room ≡ room) (cut_is : length earlier ≡ cut) where
     -- ---- the room

@@ -8,7 +8,7 @@ use Rattle.rb_history.specs.NoticesAndQueries.{IsDue}
 use Rattle.rb_history.specs.RoomRule.{Setup}
 use Rattle.rb_history.specs.RingModel.{Ring}
 use Rattle.rb_history.specs.Calls.{consumer_now as whole_consumer_now}
-use Rattle.rb_chapter_ring.specs.Standing.{Standing}
+use Rattle.rb_chapter_ring.specs.Snapshot.{Snapshot}
 use Rattle.rb_chapter_ring.specs.Chapters.{Chapter, joined}
 use Rattle.rb_chapter_ring.specs.ChapterRing.{ChapterRing, whole_ring}
 use Rattle.rb_chapter_ring.specs.ChapterCalls.{consumer_by_chapter}
@@ -35,7 +35,7 @@ module _ (earlier : List Entry) (old new : ChapterRing) (is : ContinuesHistory e
   said = (goes-on old.chapter.opening.setup earlier old.chapter.opening is.earlier_legal is.opened old.chapter.entries).1 is.legal
 
   pub consumer-same : consumer_by_chapter old ≡ whole_consumer_now (whole_ring earlier old)
-  consumer-same = ap (λ (o : Standing). o.consumer) said.stands
+  consumer-same = ap (λ (o : Snapshot). o.consumer) said.stands
 
   pub due-same : {A : Type 0} (p flags : ℕ) → A ↔ IsDue (consumer_by_chapter old) p flags → A ↔ IsDue (whole_consumer_now (whole_ring earlier old)) p flags
   due-same {A} p flags is_due = subst (λ c. A ↔ IsDue c p flags) consumer-same is_due

@@ -5,7 +5,7 @@ use Rattle.rb_history.specs.declared.entries.Entry.{Entry}
 use Rattle.rb_history.specs.RoomRule.{Setup}
 use Rattle.rb_history.specs.Counting.{counts_of}
 use Rattle.rb_history.specs.WorkerCounts.{serials_of, numbers_below}
-use Rattle.rb_chapter_ring.specs.Standing.{standing_of}
+use Rattle.rb_chapter_ring.specs.Snapshot.{snapshot_of}
 use Rattle.rb_chapter_ring.specs.Chapters.{Chapter}
 use Rattle.rb_chapter_ring.specs.ChapterRing.{ChapterRing}
 use Rattle.rb_ledger.specs.Roles.{Book, book_of}
@@ -29,7 +29,7 @@ AreNumberedFrom n (c ∷ cs) = (c.number ≡ n) × AreNumberedFrom (n + 1) cs
 -- the opening of each is the summary of all entries before it, where `earlier` are those before the first
 abbrev pub EachGoesOn : Setup → List Entry → List Chapter → Type 0
 EachGoesOn setup earlier [] = Unit {0}
-EachGoesOn setup earlier (c ∷ cs) = (c.opening ≡ standing_of setup earlier) × EachGoesOn setup (earlier ++ c.entries) cs
+EachGoesOn setup earlier (c ∷ cs) = (c.opening ≡ snapshot_of setup earlier) × EachGoesOn setup (earlier ++ c.entries) cs
 
 -- the chapters and the last one may be bound: they are numbered from 0, and continue the empty history
 pub record MayBind (chapters : List Chapter) (last : Chapter) : Type 0 where

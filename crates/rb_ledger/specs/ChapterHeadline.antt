@@ -10,7 +10,7 @@ use Rattle.rb_history.specs.declared.entries.Entry.{Entry}
 use Rattle.rb_history.specs.RoomRule.{Setup}
 use Rattle.rb_history.specs.OneCall.{IsOneCall}
 use Rattle.rb_history.specs.RingModel.{Ring, fresh}
-use Rattle.rb_chapter_ring.specs.Standing.{standing_of}
+use Rattle.rb_chapter_ring.specs.Snapshot.{snapshot_of}
 use Rattle.rb_chapter_ring.specs.CountedFrom.{IsLegalFrom}
 use Rattle.rb_chapter_ring.specs.Chapters.{Chapter, IsLegalChapter, joined}
 use Rattle.rb_chapter_ring.specs.ChapterRing.{ChapterRing, StandsForChapter}
@@ -41,7 +41,7 @@ pub record IsRunBehind (setup : Setup) (earlier entries : List Entry) : Type 0 w
 -- legal from there, as one thread's run that continues theirs; and the ring's state agrees with it.
 pub record IsSequentialByChapter (handed_out : List Chapter) (v : ChapterRing) : Type 0 where
   pub goes_on : Binds handed_out v.chapter
-  pub opening_is : v.chapter.opening ≡ standing_of v.chapter.opening.setup (joined handed_out)
+  pub opening_is : v.chapter.opening ≡ snapshot_of v.chapter.opening.setup (joined handed_out)
   pub legal : IsLegalFrom v.chapter.opening v.chapter.entries
   pub one_run : IsRunBehind v.chapter.opening.setup (joined handed_out) v.chapter.entries
   pub stands_for : StandsForChapter v

@@ -4,7 +4,7 @@ use crate::answers::{tell_chapter, tell_handed_out, tell_numbers, tell_tally};
 use crate::row::RingRow;
 use crate::script::{RowScript, WRONG_WORDS, keep, narrow};
 use crate::text::Text;
-use rb_chapter_ring::{COUNT_LIMIT, Chapter, Standing, UntakenRecord, UntakenStatus};
+use rb_chapter_ring::{COUNT_LIMIT, Chapter, Snapshot, UntakenRecord, UntakenStatus};
 use rb_consumer::Keeper;
 
 /// The verbs of rows on chapters.
@@ -148,7 +148,7 @@ fn tell_state(chapter: &Chapter, out: &mut Text) {
 }
 
 // Appends the summary at the beginning or the end of a chapter.
-fn tell_opening(opening: &Standing, out: &mut Text) {
+fn tell_opening(opening: &Snapshot, out: &mut Text) {
     let numbers = opening.numbers();
     out.field("size", numbers.size);
     out.field("start", numbers.start);

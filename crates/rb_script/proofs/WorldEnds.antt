@@ -14,12 +14,12 @@ use Rattle.rb_chapter_ring.specs.OpenedRing.{capped_counts, told_counts}
 use Rattle.rb_interp.specs.MachineState.{MachineState}
 use Rattle.rb_world.specs.OpenedWorlds.{IsOpenedWorld, IsStarted, MayOpen}
 use Rattle.rb_world.specs.WorldValue.{WorldValue}
-use Rattle.rb_world.specs.declared.opening.RingSetup.{RingSetup}
-use Rattle.rb_world.specs.declared.opening.WorkerSetup.{WorkerSetup}
+use Rattle.rb_world.specs.declared.world_setup.RingSetup.{RingSetup}
+use Rattle.rb_world.specs.declared.world_setup.WorkerSetup.{WorkerSetup}
 use Rattle.rb_world.specs.declared.world_record.WorldRecord.{WorldRecord}
 use Rattle.rb_world.proofs.Openings.{length-opened}
 use Rattle.rb_chapter_ring.specs.Chapters.{Chapter, closing_of}
-use Rattle.rb_chapter_ring.specs.Standing.{Standing}
+use Rattle.rb_chapter_ring.specs.Snapshot.{Snapshot}
 use Rattle.rb_script.specs.Drawings.{drawing_line, ring_drawing}
 use Rattle.rb_script.specs.OutputLines.{ring_line}
 use Rattle.rb_script.specs.Simulation.{lines_below, ring_state_text}
@@ -55,7 +55,7 @@ module _ (earlier : List Entry) (ring : ChapterRing) (kept : IsKept earlier ring
       ∙ (ap (λ c. ring_line r (producer_now (whole_ring earlier ring)) (consumer_now (whole_ring earlier ring)) c) (k ∙ ap capped_counts same.counts) ∙ ap (λ s. ring_state_text r s) e))
 
   -- its drawing, from the summary of its chapter's end
-  pub drawing-shown : (r : ℕ) (whole : Ring) → whole_ring earlier ring ≡ whole → (chapter : Chapter) → chapter ≡ ring.chapter → (closing : Standing) → closing ≡ closing_of chapter
+  pub drawing-shown : (r : ℕ) (whole : Ring) → whole_ring earlier ring ≡ whole → (chapter : Chapter) → chapter ≡ ring.chapter → (closing : Snapshot) → closing ≡ closing_of chapter
       → drawing_line r closing.setup.size closing.consumer closing.producer closing.records ≡ ring_drawing r whole
   drawing-shown r whole e chapter is closing closes =
-      ap (λ (o : Standing). drawing_line r o.setup.size o.consumer o.producer o.records) (closes ∙ (ap closing_of is ∙ same.stands)) ∙ ap (ring_drawing r) e
+      ap (λ (o : Snapshot). drawing_line r o.setup.size o.consumer o.producer o.records) (closes ∙ (ap closing_of is ∙ same.stands)) ∙ ap (ring_drawing r) e

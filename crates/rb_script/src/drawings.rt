@@ -6,7 +6,7 @@ ghost use Rattle.rb_chapter_ring.specs.UntakenRecords.{status_shown, untaken_sho
 ghost use Rattle.rb_script.specs.Drawings.{box_text, drawing_end, drawing_front, drawing_line, status_word};
 
 use crate::output_lines::push_number;
-use rb_chapter_ring::{Standing, UntakenRecord, UntakenStatus};
+use rb_chapter_ring::{Snapshot, UntakenRecord, UntakenStatus};
 use rb_history::span;
 use std::alloc::AllocError;
 
@@ -15,7 +15,7 @@ use std::alloc::AllocError;
 pub(crate) fn push_drawing(
     text: &mut Vec<u8>,
     ring: u32,
-    closing: &Standing,
+    closing: &Snapshot,
 ) -> Result<(), AllocError>
     ensures line { OnOk result (text.new.items ≡ text.old.items ++ drawing_line ring closing.now.opening.setup.size closing.now.opening.consumer closing.now.opening.producer closing.now.opening.records) }
 {

@@ -9,7 +9,7 @@ use Rattle.rb_history.specs.ReservationModel.{Granted}
 use Rattle.rb_history.specs.RoomRule.{Setup}
 use Rattle.rb_history.specs.RingModel.{Contents}
 use Rattle.rb_history.specs.Calls.{producer_now as whole_producer_now, consumer_now as whole_consumer_now}
-use Rattle.rb_chapter_ring.specs.Standing.{Standing}
+use Rattle.rb_chapter_ring.specs.Snapshot.{Snapshot}
 use Rattle.rb_chapter_ring.specs.ChapterRing.{ChapterRing, whole_ring}
 use Rattle.rb_chapter_ring.specs.ChapterCalls.{producer_by_chapter}
 use Rattle.rb_chapter_ring.specs.WholeHistory.{ContinuesHistory}
@@ -57,8 +57,8 @@ module _ (earlier : List Entry) (old new : ChapterRing) (is : ContinuesHistory e
   audits-whole x a =
       let same = said earlier old new is in
       record {
-        producer_is = a.producer_is ∙ ap (λ (o : Standing). o.producer) same.stands;
-        consumer_is = a.consumer_is ∙ ap (λ (o : Standing). o.consumer) same.stands;
+        producer_is = a.producer_is ∙ ap (λ (o : Snapshot). o.producer) same.stands;
+        consumer_is = a.consumer_is ∙ ap (λ (o : Snapshot). o.consumer) same.stands;
         counts_are = a.counts_are ∙ ap capped_counts same.counts;
         own_is = a.own_is ∙ totals-are earlier old new w is low;
         same = ap (whole_ring earlier) a.same;

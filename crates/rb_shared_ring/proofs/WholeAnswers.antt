@@ -11,7 +11,7 @@ use Rattle.rb_history.specs.declared.tally.Tally.{Tally}
 use Rattle.rb_history.specs.ReservationModel.{Granted}
 use Rattle.rb_history.specs.RingModel.{Contents}
 use Rattle.rb_history.specs.Calls.{Refuses, producer_now as whole_producer_now, consumer_now as whole_consumer_now}
-use Rattle.rb_chapter_ring.specs.Standing.{Standing}
+use Rattle.rb_chapter_ring.specs.Snapshot.{Snapshot}
 use Rattle.rb_chapter_ring.specs.Chapters.{Chapter}
 use Rattle.rb_chapter_ring.specs.ChapterRing.{ChapterRing, whole_ring}
 use Rattle.rb_chapter_ring.specs.ChapterCalls.{IsSameChapter, LogsByChapter, TakesByChapter, producer_by_chapter}
@@ -102,7 +102,7 @@ module _ (old new : ChapterRing) where
 
 module _ (earlier : List Entry) (old new : ChapterRing) (is : ContinuesHistory earlier old.chapter) where
   pub producer-same : whole_producer_now (whole_ring earlier old) ≡ producer_by_chapter old
-  producer-same = sym (ap (λ (o : Standing). o.producer) (said earlier old new is).stands)
+  producer-same = sym (ap (λ (o : Snapshot). o.producer) (said earlier old new is).stands)
 
   refuses-whole : (w n : ℕ) (f : ReserveFault) → RefusesInChapter old new w n f → Refuses (whole_ring earlier old) (whole_ring earlier new) w n (whole_fault f)
   refuses-whole w n Full a = let whole = ((calls-alike earlier old new is).finds_full w n).0 a in whole.2

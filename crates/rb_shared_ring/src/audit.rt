@@ -2,7 +2,7 @@
 
 ghost use Rattle.std.specs.Prelude.{◌≡◌, ◌≢◌, ◌↔◌, ◌<◌, ◌≤◌, IfOk, IsErr, None, length, slice_index_or};
 ghost use Rattle.crossbeam_queue.specs.Passes.{view, IsPassOf, IsSamePass, ruled_capacity};
-ghost use Rattle.rb_chapter_ring.specs.Standing.{no_tally};
+ghost use Rattle.rb_chapter_ring.specs.Snapshot.{no_tally};
 ghost use Rattle.rb_ledger.specs.Roles.Role.{Worker};
 ghost use Rattle.rb_ledger.specs.Seats.{IsSameSeat};
 ghost use Rattle.rb_ledger.specs.LockedCalls.{LockedCall};

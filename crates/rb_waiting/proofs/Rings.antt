@@ -18,7 +18,7 @@ use Rattle.rb_history.specs.RoomRule.{Setup}
 use Rattle.rb_history.specs.WorkerCounts.{is_refusal_of, numbers_below}
 use Rattle.rb_chapter_ring.specs.Chapters.{Chapter, joined}
 use Rattle.rb_chapter_ring.specs.ChapterCalls.{producer_by_chapter}
-use Rattle.rb_chapter_ring.specs.Standing.{Standing}
+use Rattle.rb_chapter_ring.specs.Snapshot.{Snapshot}
 use Rattle.rb_chapter_ring.specs.WholeHistory.{IsBound}
 use Rattle.rb_chapter_ring.proofs.ChapterNumbers.{length-below}
 use Rattle.rb_admission.specs.Admission.{LooksBeforeItAsks}
@@ -151,7 +151,7 @@ module _ {S : Type 0} (position : S → ℕ) (takes : S → SinkItem → S → T
   stays_low : producer_of whole.setup.start whole.history + turn ≤ 2 ^ 62
   stays_low =
       let goes_on = gathered-continues e.closing.at_end seats ends.consumer ends.closed.gathered in
-      let producer : producer_by_chapter e.closing.at_end ≡ producer_of whole.setup.start whole.history = ap (λ (x : Standing). x.producer) (said (joined ends.consumer.handed_out) e.closing.at_end e.closing.at_end goes_on).stands in
+      let producer : producer_by_chapter e.closing.at_end ≡ producer_of whole.setup.start whole.history = ap (λ (x : Snapshot). x.producer) (said (joined ends.consumer.handed_out) e.closing.at_end e.closing.at_end goes_on).stands in
       let some_worker : 1 ≤ whole.setup.workers = ends.closed.closed.is_ring.bounded.workers.0 in
       let one : 1 * turn ≤ whole.setup.workers * turn = mul-le-mul_right turn some_worker in
       let leaves : get_or t.limits.items ring 0 + whole.setup.workers * turn + 1 ≡ whole.setup.size = has_room 0 in

@@ -96,7 +96,7 @@ class Tally:
 
 
 @dataclasses.dataclass
-class Standing:
+class Snapshot:
     """The state of a ring after a prefix of its history."""
 
     size: int
@@ -133,7 +133,7 @@ class Chapter:
 
     def __init__(self, room: int, workers: int, number: int = 0, opening=None) -> None:
         self.room, self.number, self.entries = room, number, []
-        self.opening = opening or Standing(0, 0, 0, 0, [], [Tally() for _ in range(workers)])
+        self.opening = opening or Snapshot(0, 0, 0, 0, [], [Tally() for _ in range(workers)])
         self.closing = self.opening.copy()
 
     def owed(self):
@@ -165,7 +165,7 @@ class Ring:
     """One ring, the chapter that it keeps, and the records in the hands of its workers."""
 
     def __init__(self, size: int, start: int, workers: int, room: int) -> None:
-        opening = Standing(size, start, start, start, [], [Tally() for _ in range(workers)])
+        opening = Snapshot(size, start, start, start, [], [Tally() for _ in range(workers)])
         self.chapter = Chapter(room, workers, 0, opening)
         self.hands = [[None] * HANDS for _ in range(workers)]
         self.taken = []

@@ -3,21 +3,21 @@ use Rattle.std.specs.Prelude.{ℕ, ◌≡◌, ◌+◌, ◌*◌, ◌≤◌, List,
 use Rattle.rb_history.specs.declared.entries.Entry.{Entry}
 use Rattle.rb_history.specs.RingModel.{IsWorkerCount}
 use Rattle.rb_chapter_ring.specs.declared.chapter.Chapter.TheInside.{Inside}
-use Rattle.rb_chapter_ring.specs.Standing.{Standing}
+use Rattle.rb_chapter_ring.specs.Snapshot.{Snapshot}
 use Rattle.rb_chapter_ring.specs.Chapters.{Chapter, IsChapterRoom, closing_of}
 use Rattle.rb_chapter_ring.specs.ChapterRoom.{owed}
 use Rattle.rb_chapter_ring.specs.WholeHistory.{IsKept}
 use Rattle.rb_chapter_ring.specs.inner.EntryWords.{entries_of}
 
 -- the entries of words, from an opening on
-abbrev pub entries_in : Standing → List ℕ → List Entry
+abbrev pub entries_in : Snapshot → List ℕ → List Entry
 entries_in o words = entries_of o.tallies o.producer words
 
 abbrev pub chapter_shown : Inside → Chapter
 chapter_shown a = record { number = a.number; room = a.room; opening = a.opening.opening; entries = entries_in a.opening.opening a.words.items }
 
 -- the consumer position is at least a header's eight bytes for each record that was taken
-abbrev pub IsBehindTakes : Standing → Type 0
+abbrev pub IsBehindTakes : Snapshot → Type 0
 IsBehindTakes o = 8 * (o.consumed + o.skipped) ≤ o.consumer
 
 -- There is memory for as many entries as the room, and for as many records at both ends; few enough records were taken

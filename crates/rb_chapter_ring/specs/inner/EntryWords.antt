@@ -15,7 +15,7 @@ use Rattle.rb_history.specs.declared.entries.Entry.{Entry}
 use Rattle.rb_history.specs.declared.entries.Entry.TheVariants.{Res, Full, Sub, Dis, Take}
 use Rattle.rb_history.specs.declared.tally.Tally.{Tally}
 use Rattle.rb_history.specs.History.{granted_span}
-use Rattle.rb_chapter_ring.specs.Standing.{no_tally}
+use Rattle.rb_chapter_ring.specs.Snapshot.{no_tally}
 
 -- the number of records that the opening counts for a worker
 abbrev pub made_before : List Tally → ℕ → ℕ

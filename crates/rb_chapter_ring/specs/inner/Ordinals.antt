@@ -3,7 +3,7 @@ use Rattle.std.specs.Prelude.{ℕ, ◌≡◌, ◌+◌, ◌-◌, ◌<◌, ◌≤�
 use Rattle.std.specs.List.{slice_index_or as get_or}
 use Rattle.rb_history.specs.ReservationModel.{Granted}
 use Rattle.rb_history.specs.inner.RecordRows.{IsBusyAt}
-use Rattle.rb_chapter_ring.specs.Standing.{Standing, record_in}
+use Rattle.rb_chapter_ring.specs.Snapshot.{Snapshot, record_in}
 use Rattle.rb_chapter_ring.specs.Chapters.{Chapter, closing_of}
 use Rattle.rb_chapter_ring.specs.ChapterRing.{ChapterRing}
 use Rattle.rb_chapter_ring.specs.declared.out_record.OutRecord.{OutRecord}
@@ -11,18 +11,18 @@ use Rattle.rb_chapter_ring.specs.Hands.{hand_at}
 use Rattle.rb_chapter_ring.specs.HandRing.{HandRing, HasHands}
 
 -- the number of records that were taken, which is the ordinal of the record at the front
-abbrev pub taken_before : Standing → ℕ
+abbrev pub taken_before : Snapshot → ℕ
 taken_before o = o.consumed + o.skipped
 
 -- the record at this position was not taken, and has this ordinal
-pub record HasOrdinal (o : Standing) (p n : ℕ) : Type 0 where
+pub record HasOrdinal (o : Snapshot) (p n : ℕ) : Type 0 where
   pub index : ℕ
   pub within : index < length o.records
   pub here : (record_in o index).pos ≡ p
   pub ordinal : n ≡ taken_before o + index
 
 -- a record that was granted before keeps its ordinal
-pub record KeepsOrdinals (old new : Standing) : Type 0 where
+pub record KeepsOrdinals (old new : Snapshot) : Type 0 where
   pub grown : old.producer ≤ new.producer
   pub numbers : (p n : ℕ) → HasOrdinal new p n → p < old.producer → HasOrdinal old p n
 

@@ -12,7 +12,7 @@ use Rattle.rb_history.specs.History.Status.{Busy, Waiting}
 use Rattle.rb_history.specs.Counting.{counts_of}
 use Rattle.rb_history.specs.RingModel.{IsRingSize, IsStartPosition, IsWorkerCount}
 use Rattle.rb_history.specs.StoredRecords.{shown_record, contents_of, IsSized}
-use Rattle.rb_chapter_ring.specs.Standing.{Standing}
+use Rattle.rb_chapter_ring.specs.Snapshot.{Snapshot}
 use Rattle.rb_chapter_ring.specs.Chapters.{Chapter, IsChapterRoom, closing_of}
 use Rattle.rb_chapter_ring.specs.ChapterRing.{ChapterRing}
 use Rattle.rb_chapter_ring.specs.WholeHistory.{IsKept}
@@ -38,7 +38,7 @@ stored_from slots sheets n [] = []
 stored_from slots sheets n (s ∷ ss) = stored_at s (get_or sheets (n % slots) []) ∷ stored_from slots sheets (n + 1) ss
 
 -- the records of an opening
-abbrev pub stored_in : Standing → List (List ℕ) → List StoredRecord
+abbrev pub stored_in : Snapshot → List (List ℕ) → List StoredRecord
 stored_in o sheets = stored_from (length sheets) sheets (taken_before o) o.records
 
 -- the chapter's records, with their bytes
@@ -72,7 +72,7 @@ abbrev pub ring_shown : Inside → TaggedRing
 ring_shown a = record { tag = a.tag; state = hand_ring (ring_in (parts_of a)) a.hands.items }
 
 -- facts about the records, by the summary at the chapter's end
-pub record IsStored (size : ℕ) (o : Standing) (stored : List StoredRecord) : Type 0 where
+pub record IsStored (size : ℕ) (o : Snapshot) (stored : List StoredRecord) : Type 0 where
   pub limit : o.producer ≤ 2 ^ 62
   pub space : o.producer ≤ o.consumer + (size - 1)
   pub aligned : o.consumer % 8 ≡ 0

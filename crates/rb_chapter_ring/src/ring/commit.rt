@@ -8,9 +8,9 @@ ghost use Rattle.rb_chapter_ring.specs.RecordEnds.{EndsFromHand};
 ghost use Rattle.rb_chapter_ring.specs.HandRing.{HasInHand, SubmitsFromHand, DiscardsFromHand};
 ghost use Rattle.rb_chapter_ring.specs.inner.Ordinals.{HasBusyOrdinal};
 
-use crate::counting::count_discard;
-use crate::finding::{keep_bytes, slot_in};
 use crate::hand_table::set_hand;
+use crate::record_slots::{keep_bytes, slot_in};
+use crate::ring_counts::count_discard;
 use crate::{RecordEnd, Reservation, RingState};
 use rb_history::{Notice, notice_for};
 

@@ -7,7 +7,7 @@ ghost use Rattle.rb_chapter_ring.specs.ChapterCalls.{IsSameChapter, OutputsByCha
 ghost use Rattle.rb_chapter_ring.specs.declared.faults.ReserveFault.TheVariants.{Flags};
 ghost use Rattle.rb_chapter_ring.specs.RingFaults.{RefusesInChapter};
 
-use crate::finding::{keep_bytes, slot_in};
+use crate::record_slots::{keep_bytes, slot_in};
 use crate::{RecordEnd, ReserveFault, RingState};
 use rb_history::{KNOWN_FLAGS, Notice, notice_for};
 use rb_lend::Sheet;

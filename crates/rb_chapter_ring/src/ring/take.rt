@@ -6,7 +6,7 @@ ghost use Rattle.rb_history.specs.declared.answers.Taken.TheVariants.{BusyFront,
 ghost use Rattle.rb_chapter_ring.specs.ChapterCalls.{AllTakenByChapter, HasBusyFrontByChapter, IsSameChapter, TakesByChapter};
 ghost use Rattle.rb_chapter_ring.specs.ManyTakes.{TakesManyInChapter};
 
-use crate::finding::{find_front, slot_in};
+use crate::record_slots::{find_front, slot_in};
 use crate::{RingState, UntakenStatus};
 use rb_history::Taken;
 

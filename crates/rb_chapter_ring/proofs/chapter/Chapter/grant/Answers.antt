@@ -1,12 +1,12 @@
 use Rattle.std.proofs.Common.{◌≡◌, ◌-◌, ◌<◌, ◌∷◌, [], length, length-append, sym, ap, ◌∙◌, subst, arith}
 use Rattle.rb_history.specs.declared.entries.Entry.TheVariants.{Res}
-use Rattle.rb_chapter_ring.specs.Standing.{Standing}
+use Rattle.rb_chapter_ring.specs.Snapshot.{Snapshot}
 use Rattle.rb_chapter_ring.specs.Chapters.{Chapter}
 use Rattle.rb_chapter_ring.specs.CountedFrom.{HasRoomFrom, grants_from, producer_from}
 use Rattle.rb_chapter_ring.specs.ChapterRoom.{MayGrant, with_entry}
 use Rattle.rb_chapter_ring.specs.inner.ChapterSteps.{GrantsRecord}
 use Rattle.rb_chapter_ring.specs.inner.ChapterBody.{chapter_shown, entries_in, IsBehindTakes}
-use Rattle.rb_chapter_ring.specs.inner.StandingSteps.{next_record}
+use Rattle.rb_chapter_ring.specs.inner.SnapshotSteps.{next_record}
 use Rattle.rb_chapter_ring.proofs.Logging.{grants-fit, granted, serial-is}
 use Rattle.rb_chapter_ring.proofs.EntryWords.{grants-few, length-entries, logs-grant}
 use Rattle.rb_chapter_ring.proofs.chapter.Chapter.grant.Goals as goal
@@ -73,7 +73,7 @@ invariant_of-self c =
         arith,
         was.passed,
         c.add_grant-serial.ensures.passed,
-        ap (λ (o : Standing). length o.records) c.add_grant-serial.ensures.added,
+        ap (λ (o : Snapshot). length o.records) c.add_grant-serial.ensures.added,
         length-append closing.records (next_record w c.args.len closing ∷ []),
         ap length c.log.ensures.logged,
         length-append c.self.inside.words.items (c.grant_word.result ∷ []),
@@ -94,7 +94,7 @@ returns-clause-granted c =
     let low = subst (λ (x : Chapter). w < x.opening.setup.workers) (sym c.self.view_is) c.requires.worker in
     let fits = subst (λ (x : Chapter). HasRoomFrom x.opening x.entries c.args.len) (sym c.self.view_is) (c.has_room.ensures.exact.0 c.if-not-has_room.false) in
     let room = subst MayGrant (sym c.self.view_is) (c.may_grant.ensures.exact.0 c.if-not-may_grant.false) in
-    let pos = c.numbers-pos.ensures.producer ∙ ap (λ (o : Standing). o.producer) was.closing_is in
+    let pos = c.numbers-pos.ensures.producer ∙ ap (λ (o : Snapshot). o.producer) was.closing_is in
     let serial = c.add_grant-serial.ensures.serial ∙ serial-is was.earlier old was.kept closing was.closing_is w low in
     let new : Chapter = record { number = c.self.inside.number; room = c.self.inside.room; opening = c.self.inside.opening.opening; entries = entries_in c.self.inside.opening.opening c.log.new.words.items } in
     let logged : new ≡ with_entry old (Res w (grants_from old.opening w old.entries) c.args.len (producer_from old.opening old.entries)) =

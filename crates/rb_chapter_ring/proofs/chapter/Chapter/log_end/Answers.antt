@@ -1,6 +1,6 @@
 use Rattle.std.proofs.Common.{◌≡◌, [], ◌∷◌, length, length-append, length-set, sym, ap, ◌∙◌, subst, arith}
 use Rattle.rb_history.specs.History.{Shown}
-use Rattle.rb_chapter_ring.specs.Standing.{Standing, record_in}
+use Rattle.rb_chapter_ring.specs.Snapshot.{Snapshot, record_in}
 use Rattle.rb_chapter_ring.specs.Chapters.{Chapter, closing_of}
 use Rattle.rb_chapter_ring.specs.ChapterRoom.{IsBusyNow, record_now, with_entry}
 use Rattle.rb_chapter_ring.specs.inner.ChapterBody.{chapter_shown, entries_in, IsBehindTakes}
@@ -74,7 +74,7 @@ invariant_of-self c =
         records-owe (closing_of old).records,
         busy.0,
         c.add_end-pos.ensures.passed,
-        ap (λ (o : Standing). length o.records) c.add_end-pos.ensures.added,
+        ap (λ (o : Snapshot). length o.records) c.add_end-pos.ensures.added,
         length-set closing.records c.args.index (record (record_in closing c.args.index) { status = status_of_end c.args.end }),
         ap length c.log.ensures.logged,
         length-append c.self.inside.words.items (c.end_word.result ∷ []),

@@ -1,6 +1,6 @@
 use Rattle.std.proofs.Common.{◌≡◌, [], ◌∷◌, length, length-append, sym, ap, ◌∙◌, subst, arith}
 use Rattle.rb_history.specs.declared.entries.Entry.TheVariants.{Take}
-use Rattle.rb_chapter_ring.specs.Standing.{Standing}
+use Rattle.rb_chapter_ring.specs.Snapshot.{Snapshot}
 use Rattle.rb_chapter_ring.specs.Chapters.{Chapter, closing_of}
 use Rattle.rb_chapter_ring.specs.CountedFrom.{consumer_from}
 use Rattle.rb_chapter_ring.specs.ChapterRoom.{HasSettledFront, with_entry}
@@ -57,7 +57,7 @@ invariant_of-self c =
     let old = chapter_shown c.self.inside in
     let closing = c.self.inside.closing.opening in
     let front = subst HasSettledFront (sym c.self.view_is) c.requires.front in
-    let pos = c.add_take-pos.ensures.position ∙ ap (λ (o : Standing). o.consumer) was.closing_is in
+    let pos = c.add_take-pos.ensures.position ∙ ap (λ (o : Snapshot). o.consumer) was.closing_is in
     let new : Chapter = record { number = c.self.inside.number; room = c.self.inside.room; opening = c.self.inside.opening.opening; entries = entries_in c.self.inside.opening.opening c.log.new.words.items } in
     let logged : new ≡ with_entry old (Take (consumer_from old.opening old.entries)) = ap (λ es. record old { entries = es }) (logs-in c.self.inside.opening.opening c.self.inside.words.items c.log.new.words.items c.take_word.result (Take c.add_take-pos.result) c.log.ensures.logged c.take_word.ensures.word) ∙ ap (λ q. with_entry old (Take q)) pos in
     let runs = taken was.earlier old was.kept closing was.closing_is front c.add_take-pos.new.self.opening c.self.inside.owed new was.owed_is c.add_take-pos.ensures.taken logged in
@@ -74,7 +74,7 @@ invariant_of-self c =
         records-owe (closing_of old).records,
         front.0,
         c.add_take-pos.ensures.passed,
-        ap (λ (o : Standing). length o.records) c.add_take-pos.ensures.taken,
+        ap (λ (o : Snapshot). length o.records) c.add_take-pos.ensures.taken,
         one-less closing.records (some-there was.earlier old was.kept closing was.closing_is front),
         ap length c.log.ensures.logged,
         length-append c.self.inside.words.items (c.take_word.result ∷ []),
@@ -90,6 +90,6 @@ pub returns : goal.returns
 returns c =
     let was = c.self.invariant in
     let old = chapter_shown c.self.inside in
-    let pos = c.add_take-pos.ensures.position ∙ ap (λ (o : Standing). o.consumer) was.closing_is in
+    let pos = c.add_take-pos.ensures.position ∙ ap (λ (o : Snapshot). o.consumer) was.closing_is in
     let logged = ap (λ es. record old { entries = es }) (logs-in c.self.inside.opening.opening c.self.inside.words.items c.log.new.words.items c.take_word.result (Take c.add_take-pos.result) c.log.ensures.logged c.take_word.ensures.word) ∙ ap (λ q. with_entry old (Take q)) pos in
     record { logged = logged ∙ ap (λ (x : Chapter). with_entry x (Take (consumer_from x.opening x.entries))) c.self.view_is }

@@ -1,6 +1,6 @@
 use Rattle.std.proofs.Common.{◌≡◌, ◌+◌, ◌++◌, length, refl, sym, ap, ◌∙◌, subst, arith}
 use Rattle.rb_history.specs.RingModel.{IsWorkerCount}
-use Rattle.rb_chapter_ring.specs.Standing.{Standing}
+use Rattle.rb_chapter_ring.specs.Snapshot.{Snapshot}
 use Rattle.rb_chapter_ring.specs.Chapters.{Chapter, Meets, closing_of}
 use Rattle.rb_chapter_ring.specs.inner.ChapterBody.{chapter_shown, entries_in, IsBehindTakes}
 use Rattle.rb_chapter_ring.proofs.Running.{closing-fits, records-owe, runs-on}
@@ -31,15 +31,15 @@ invariant_of-self c =
     let runs = runs-on was.earlier old new c.copy_from-2.new.self.opening was.kept meets none same (c.copy_from-2.ensures.same ∙ sym c.copy_from.ensures.same) in
     record {
       room = c.self.invariant.room;
-      workers = subst IsWorkerCount (sym (ap (λ (o : Standing). o.setup.workers) meets.goes_on)) was.workers;
+      workers = subst IsWorkerCount (sym (ap (λ (o : Snapshot). o.setup.workers) meets.goes_on)) was.workers;
       space = c.self.invariant.space;
       opening_space = omega (arith, c.self.invariant.opening_space, c.copy_from.ensures.room);
       closing_space = omega (arith, c.self.invariant.closing_space, c.copy_from-2.ensures.room);
       passed = omega (
         arith,
         c.copy_from-2.ensures.passed,
-        ap (λ (o : Standing). length o.records) c.copy_from-2.ensures.same,
-        ap (λ (o : Standing). length o.records) was.closing_is,
+        ap (λ (o : Snapshot). length o.records) c.copy_from-2.ensures.same,
+        ap (λ (o : Snapshot). length o.records) was.closing_is,
         records-owe (closing_of old).records,
         was.owed_is,
       );

@@ -1,6 +1,6 @@
 use Rattle.std.proofs.Common.{◌≡◌, ◌<◌, [], ◌∷◌, length, length-append, sym, ap, subst, arith}
 use Rattle.rb_history.specs.declared.entries.Entry.TheVariants.{Full}
-use Rattle.rb_chapter_ring.specs.Standing.{Standing}
+use Rattle.rb_chapter_ring.specs.Snapshot.{Snapshot}
 use Rattle.rb_chapter_ring.specs.Chapters.{Chapter}
 use Rattle.rb_chapter_ring.specs.CountedFrom.{HasRoomFrom}
 use Rattle.rb_chapter_ring.specs.ChapterRoom.{MayRefuse, with_entry}
@@ -46,7 +46,7 @@ invariant_of-self c =
       space = omega (arith, was.space, c.log.ensures.space);
       opening_space = was.opening_space;
       closing_space = omega (arith, was.closing_space, c.add_refusal.ensures.room);
-      passed = omega (arith, was.passed, c.add_refusal.ensures.passed, ap (λ (o : Standing). length o.records) c.add_refusal.ensures.added, ap length c.log.ensures.logged, length-append c.self.inside.words.items (c.refusal_word.result ∷ []));
+      passed = omega (arith, was.passed, c.add_refusal.ensures.passed, ap (λ (o : Snapshot). length o.records) c.add_refusal.ensures.added, ap length c.log.ensures.logged, length-append c.self.inside.words.items (c.refusal_word.result ∷ []));
       takes = subst IsBehindTakes (sym c.add_refusal.ensures.added) was.takes;
       closing_is = runs.closing_is;
       owed_is = runs.owed_is;

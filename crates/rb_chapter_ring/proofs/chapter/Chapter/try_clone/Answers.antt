@@ -1,6 +1,6 @@
 use Rattle.std.proofs.Common.{◌≡◌, length, sym, ap, ◌∙◌, subst, arith, rules}
 use Rattle.rb_history.specs.RingModel.{IsWorkerCount}
-use Rattle.rb_chapter_ring.specs.Standing.{Standing}
+use Rattle.rb_chapter_ring.specs.Snapshot.{Snapshot}
 use Rattle.rb_chapter_ring.specs.Chapters.{Chapter, closing_of}
 use Rattle.rb_chapter_ring.specs.ChapterRoom.{owed}
 use Rattle.rb_chapter_ring.specs.WholeHistory.{IsKept}
@@ -18,7 +18,7 @@ invariant_of-result c =
     let same : new ≡ old = λ i. record { number = c.self.inside.number; room = c.self.inside.room; opening = opening.same i; entries = entries_in (opening.same i) (words i) } in
     record {
       room = was.room;
-      workers = subst (λ (o : Standing). IsWorkerCount o.setup.workers) (sym opening.same) was.workers;
+      workers = subst (λ (o : Snapshot). IsWorkerCount o.setup.workers) (sym opening.same) was.workers;
       space = search rules;
       opening_space = opening.room;
       closing_space = closing.room;
@@ -26,7 +26,7 @@ invariant_of-result c =
         arith,
         was.passed,
         closing.passed,
-        ap (λ (o : Standing). length o.records) closing.same,
+        ap (λ (o : Snapshot). length o.records) closing.same,
         ap length words,
       );
       takes = subst IsBehindTakes (sym closing.same) was.takes;

@@ -2,7 +2,7 @@ use Rattle.std.proofs.Common.{◌-◌, ◌≡◌, ◌+◌, ◌%◌, ◌<◌, ◌
 use Rattle.std.proofs.lemmas.List.{length-map}
 use Rattle.rb_history.specs.declared.answers.Notice.TheVariants.{Due}
 use Rattle.rb_history.specs.NoticesAndQueries.{IsDue}
-use Rattle.rb_chapter_ring.specs.Standing.{Standing}
+use Rattle.rb_chapter_ring.specs.Snapshot.{Snapshot}
 use Rattle.rb_chapter_ring.specs.UntakenRecords.{untaken_shown}
 use Rattle.rb_chapter_ring.specs.Chapters.{closing_of}
 use Rattle.rb_chapter_ring.specs.ChapterCalls.{OutputsByChapter, consumer_by_chapter, producer_by_chapter}
@@ -47,7 +47,7 @@ overflow_sub-index c =
     let low = subst (λ (s : TaggedRing). c.args.worker < s.state.ring.chapter.opening.setup.workers) (sym c.self.view_is) c.requires.worker in
     let is = subst (λ n. GrantsRecord p.chapter c.grant.new.self c.args.worker n c.in-Ok.field-0.0 c.in-Ok.field-0.1) c.len.ensures c.in-Ok.ensures.granted in
     let many = granted-many p c.self.invariant.parts c.args.worker c.args.sheet low c.grant.new.self c.grant.new.refused c.in-Ok.ensures.uncounted c.in-Ok.field-0.0 c.in-Ok.field-0.1 is in
-    let recs = c.records.ensures.records ∙ ap (λ (o : Standing). o.records) c.closing-closing.ensures.closing in
+    let recs = c.records.ensures.records ∙ ap (λ (o : Snapshot). o.records) c.closing-closing.ensures.closing in
     omega (arith, many, ap length recs, length-map c.records.result.now untaken_shown)
 
 pub log_end-requires : goal.log_end-requires
@@ -56,7 +56,7 @@ log_end-requires c =
     let low = subst (λ (s : TaggedRing). c.args.worker < s.state.ring.chapter.opening.setup.workers) (sym c.self.view_is) c.requires.worker in
     let is = subst (λ n. GrantsRecord p.chapter c.grant.new.self c.args.worker n c.in-Ok.field-0.0 c.in-Ok.field-0.1) c.len.ensures c.in-Ok.ensures.granted in
     let many = granted-many p c.self.invariant.parts c.args.worker c.args.sheet low c.grant.new.self c.grant.new.refused c.in-Ok.ensures.uncounted c.in-Ok.field-0.0 c.in-Ok.field-0.1 is in
-    let recs = c.records.ensures.records ∙ ap (λ (o : Standing). o.records) c.closing-closing.ensures.closing in
+    let recs = c.records.ensures.records ∙ ap (λ (o : Snapshot). o.records) c.closing-closing.ensures.closing in
     let last : length c.records.result.now - 1 + 1 ≡ length (closing_of c.grant.new.self).records = omega (arith, many, ap length recs, length-map c.records.result.now untaken_shown) in
     record { busy = granted-is-busy p c.self.invariant.parts c.args.worker c.args.sheet low c.grant.new.self c.grant.new.refused c.in-Ok.ensures.uncounted c.in-Ok.field-0.0 c.in-Ok.field-0.1 is (length c.records.result.now - 1) last }
 
@@ -66,11 +66,11 @@ overflow_add-ordinal c =
     let low = subst (λ (s : TaggedRing). c.args.worker < s.state.ring.chapter.opening.setup.workers) (sym c.self.view_is) c.requires.worker in
     let is = subst (λ n. GrantsRecord p.chapter c.grant.new.self c.args.worker n c.in-Ok.field-0.0 c.in-Ok.field-0.1) c.len.ensures c.in-Ok.ensures.granted in
     let many = granted-many p c.self.invariant.parts c.args.worker c.args.sheet low c.grant.new.self c.grant.new.refused c.in-Ok.ensures.uncounted c.in-Ok.field-0.0 c.in-Ok.field-0.1 is in
-    let recs = c.records.ensures.records ∙ ap (λ (o : Standing). o.records) c.closing-closing.ensures.closing in
+    let recs = c.records.ensures.records ∙ ap (λ (o : Snapshot). o.records) c.closing-closing.ensures.closing in
     let last : length c.records.result.now - 1 + 1 ≡ length (closing_of c.grant.new.self).records = omega (arith, many, ap length recs, length-map c.records.result.now untaken_shown) in
     let below = granted-ordinal p c.self.invariant.parts c.args.worker c.args.sheet low c.grant.new.self c.grant.new.refused c.in-Ok.ensures.uncounted c.in-Ok.field-0.0 c.in-Ok.field-0.1 is (length c.records.result.now - 1) last in
-    let consumed = c.numbers-numbers-in-Ok.ensures.consumed ∙ ap (λ (o : Standing). o.consumed) c.closing-closing.ensures.closing in
-    let skipped = c.numbers-numbers-in-Ok.ensures.skipped ∙ ap (λ (o : Standing). o.skipped) c.closing-closing.ensures.closing in
+    let consumed = c.numbers-numbers-in-Ok.ensures.consumed ∙ ap (λ (o : Snapshot). o.consumed) c.closing-closing.ensures.closing in
+    let skipped = c.numbers-numbers-in-Ok.ensures.skipped ∙ ap (λ (o : Snapshot). o.skipped) c.closing-closing.ensures.closing in
     let fits : c.numbers-numbers-in-Ok.result.consumed + c.numbers-numbers-in-Ok.result.skipped + (length c.records.result.now - 1) < 2 ^ 64 = omega (arith, below, consumed, skipped) in
     omega (arith, fits)
 
@@ -80,11 +80,11 @@ overflow_add-ordinal-in-Ok c =
     let low = subst (λ (s : TaggedRing). c.args.worker < s.state.ring.chapter.opening.setup.workers) (sym c.self.view_is) c.requires.worker in
     let is = subst (λ n. GrantsRecord p.chapter c.grant.new.self c.args.worker n c.in-Ok.field-0.0 c.in-Ok.field-0.1) c.len.ensures c.in-Ok.ensures.granted in
     let many = granted-many p c.self.invariant.parts c.args.worker c.args.sheet low c.grant.new.self c.grant.new.refused c.in-Ok.ensures.uncounted c.in-Ok.field-0.0 c.in-Ok.field-0.1 is in
-    let recs = c.records.ensures.records ∙ ap (λ (o : Standing). o.records) c.closing-closing.ensures.closing in
+    let recs = c.records.ensures.records ∙ ap (λ (o : Snapshot). o.records) c.closing-closing.ensures.closing in
     let last : length c.records.result.now - 1 + 1 ≡ length (closing_of c.grant.new.self).records = omega (arith, many, ap length recs, length-map c.records.result.now untaken_shown) in
     let below = granted-ordinal p c.self.invariant.parts c.args.worker c.args.sheet low c.grant.new.self c.grant.new.refused c.in-Ok.ensures.uncounted c.in-Ok.field-0.0 c.in-Ok.field-0.1 is (length c.records.result.now - 1) last in
-    let consumed = c.numbers-numbers-in-Ok.ensures.consumed ∙ ap (λ (o : Standing). o.consumed) c.closing-closing.ensures.closing in
-    let skipped = c.numbers-numbers-in-Ok.ensures.skipped ∙ ap (λ (o : Standing). o.skipped) c.closing-closing.ensures.closing in
+    let consumed = c.numbers-numbers-in-Ok.ensures.consumed ∙ ap (λ (o : Snapshot). o.consumed) c.closing-closing.ensures.closing in
+    let skipped = c.numbers-numbers-in-Ok.ensures.skipped ∙ ap (λ (o : Snapshot). o.skipped) c.closing-closing.ensures.closing in
     let fits : c.numbers-numbers-in-Ok.result.consumed + c.numbers-numbers-in-Ok.result.skipped + (length c.records.result.now - 1) < 2 ^ 64 = omega (arith, below, consumed, skipped) in
     omega (arith, fits)
 
@@ -96,10 +96,10 @@ output c =
     let low = subst (λ (s : TaggedRing). c.args.worker < s.state.ring.chapter.opening.setup.workers) (sym c.self.view_is) c.requires.worker in
     let is = subst (λ n. GrantsRecord p.chapter c.grant.new.self c.args.worker n c.in-Ok.field-0.0 c.in-Ok.field-0.1) c.len.ensures c.in-Ok.ensures.granted in
     let many = granted-many p c.self.invariant.parts c.args.worker c.args.sheet low c.grant.new.self c.grant.new.refused c.in-Ok.ensures.uncounted c.in-Ok.field-0.0 c.in-Ok.field-0.1 is in
-    let recs = c.records.ensures.records ∙ ap (λ (o : Standing). o.records) c.closing-closing.ensures.closing in
+    let recs = c.records.ensures.records ∙ ap (λ (o : Snapshot). o.records) c.closing-closing.ensures.closing in
     let last : length c.records.result.now - 1 + 1 ≡ length (closing_of c.grant.new.self).records = omega (arith, many, ap length recs, length-map c.records.result.now untaken_shown) in
-    let consumed = c.numbers-numbers-in-Ok.ensures.consumed ∙ ap (λ (o : Standing). o.consumed) c.closing-closing.ensures.closing in
-    let skipped = c.numbers-numbers-in-Ok.ensures.skipped ∙ ap (λ (o : Standing). o.skipped) c.closing-closing.ensures.closing in
+    let consumed = c.numbers-numbers-in-Ok.ensures.consumed ∙ ap (λ (o : Snapshot). o.consumed) c.closing-closing.ensures.closing in
+    let skipped = c.numbers-numbers-in-Ok.ensures.skipped ∙ ap (λ (o : Snapshot). o.skipped) c.closing-closing.ensures.closing in
     let many = c.len-in-Ok.ensures ∙ a.sheets.ok.0 in
     let slot = c.slot_in-slot.ensures.value ∙ (λ j. (consumed j + skipped j + (length c.records.result.now - 1)) % many j) in
     outputs p i c.args.worker c.args.sheet low c.grant.new.self c.grant.new.refused c.in-Ok.ensures.uncounted c.in-Ok.field-0.0 c.in-Ok.field-0.1 is (length c.records.result.now - 1) last c.slot_in-slot.result slot (omega (arith, c.slot_in-slot.ensures.within, many))
@@ -125,7 +125,7 @@ returns-in-Ok-clause-granted c =
 
 pub returns-in-Ok-clause-notice : goal.returns-in-Ok-clause-notice
 returns-in-Ok-clause-notice c =
-    let consumer = c.numbers-numbers.ensures.consumer ∙ ap (λ (o : Standing). o.consumer) c.closing.ensures.closing ∙ ap (λ (s : TaggedRing). consumer_by_chapter s.state.ring) c.self.view_is in
-    let producer = c.numbers-numbers.ensures.producer ∙ ap (λ (o : Standing). o.producer) c.closing.ensures.closing ∙ ap (λ (s : TaggedRing). producer_by_chapter s.state.ring) c.self.view_is in
+    let consumer = c.numbers-numbers.ensures.consumer ∙ ap (λ (o : Snapshot). o.consumer) c.closing.ensures.closing ∙ ap (λ (s : TaggedRing). consumer_by_chapter s.state.ring) c.self.view_is in
+    let producer = c.numbers-numbers.ensures.producer ∙ ap (λ (o : Snapshot). o.producer) c.closing.ensures.closing ∙ ap (λ (s : TaggedRing). producer_by_chapter s.state.ring) c.self.view_is in
     subst (λ p. (c.notice_for-notice.result ≡ Due) ↔ IsDue (consumer_by_chapter c.args.self.now.state.ring) p c.args.flags) producer
     (subst (λ n. (c.notice_for-notice.result ≡ Due) ↔ IsDue n c.numbers-numbers.result.producer c.args.flags) consumer c.notice_for-notice.ensures.due)

@@ -2,7 +2,7 @@ use Rattle.std.proofs.Common.{◌≡◌, ◌+◌, ◌-◌, ◌%◌, ◌↔◌, N
 use Rattle.rb_history.specs.declared.answers.Notice.TheVariants.{Due}
 use Rattle.rb_history.specs.NoticesAndQueries.{IsDue}
 use Rattle.rb_history.specs.inner.RecordRows.{IsBusyAt}
-use Rattle.rb_chapter_ring.specs.Standing.{Standing}
+use Rattle.rb_chapter_ring.specs.Snapshot.{Snapshot}
 use Rattle.rb_chapter_ring.specs.Chapters.{closing_of}
 use Rattle.rb_chapter_ring.specs.ChapterCalls.{consumer_by_chapter}
 use Rattle.rb_chapter_ring.specs.Hands.{with_hand}
@@ -76,6 +76,6 @@ returns-clause-ended c =
 
 pub returns-clause-notice : goal.returns-clause-notice
 returns-clause-notice c =
-    let consumer = c.numbers.ensures.consumer ∙ ap (λ (o : Standing). o.consumer) c.closing.ensures.closing ∙ ap (λ (s : TaggedRing). consumer_by_chapter s.state.ring) c.self.view_is in
+    let consumer = c.numbers.ensures.consumer ∙ ap (λ (o : Snapshot). o.consumer) c.closing.ensures.closing ∙ ap (λ (s : TaggedRing). consumer_by_chapter s.state.ring) c.self.view_is in
     subst (λ p. (c.notice_for-notice.result ≡ Due) ↔ IsDue (consumer_by_chapter c.args.self.now.state.ring) p c.args.flags) c.pos-pos.ensures.pos
     (subst (λ n. (c.notice_for-notice.result ≡ Due) ↔ IsDue n c.pos-pos.result c.args.flags) consumer c.notice_for-notice.ensures.due)

@@ -1,7 +1,7 @@
 use Rattle.std.proofs.Common.{◌+◌, ◌<◌, ◌^◌, ap, ◌∙◌, arith}
 use Rattle.rb_history.proofs.Row.{InRow-le}
 use Rattle.rb_chapter_ring.specs.Chapters.{closing_of}
-use Rattle.rb_chapter_ring.specs.Standing.{Standing}
+use Rattle.rb_chapter_ring.specs.Snapshot.{Snapshot}
 use Rattle.rb_chapter_ring.specs.inner.RingBody.{stored_of}
 use Rattle.rb_chapter_ring.specs.inner.Ordinals.{taken_before}
 use Rattle.rb_chapter_ring.proofs.Rows.{rows}
@@ -12,13 +12,13 @@ pub overflow_add-result : goal.overflow_add-result
 overflow_add-result c =
     let a = c.self.inside in
     let i = c.self.invariant.parts in
-    let k = c.numbers-numbers.ensures.consumed ∙ ap (λ (o : Standing). o.consumed) c.closing.ensures.closing in
-    let l = c.numbers-numbers.ensures.skipped ∙ ap (λ (o : Standing). o.skipped) c.closing.ensures.closing in
+    let k = c.numbers-numbers.ensures.consumed ∙ ap (λ (o : Snapshot). o.consumed) c.closing.ensures.closing in
+    let l = c.numbers-numbers.ensures.skipped ∙ ap (λ (o : Snapshot). o.skipped) c.closing.ensures.closing in
     let fits : c.numbers-numbers.result.consumed + c.numbers-numbers.result.skipped < 2 ^ 64 = omega (arith, k, l, i.ring.stands.behind, i.ring.stands.limit, InRow-le _ _ _ (rows i.earlier a.chapter (stored_of a.chapter a.sheets.items) i.counts i.ring).in_row) in
     omega arith
 
 pub returns : goal.returns
 returns c =
-    let k = c.numbers-numbers.ensures.consumed ∙ ap (λ (o : Standing). o.consumed) c.closing.ensures.closing in
-    let l = c.numbers-numbers.ensures.skipped ∙ ap (λ (o : Standing). o.skipped) c.closing.ensures.closing in
+    let k = c.numbers-numbers.ensures.consumed ∙ ap (λ (o : Snapshot). o.consumed) c.closing.ensures.closing in
+    let l = c.numbers-numbers.ensures.skipped ∙ ap (λ (o : Snapshot). o.skipped) c.closing.ensures.closing in
     record { taken = (λ j. k j + l j) ∙ ap (λ (s : TaggedRing). taken_before (closing_of s.state.ring.chapter)) c.self.view_is }

@@ -2,19 +2,19 @@
 
 ghost use Rattle.std.specs.Prelude.{◌≡◌, ◌+◌, ◌<◌, ◌≤◌, ◌^◌, ◌↔◌, IfOk, IsTrue, drop, length, map, replicate, slice_index_or, slice_set};
 ghost use Rattle.rb_history.specs.Span.{span};
-ghost use Rattle.rb_chapter_ring.specs.Standing.{no_record, no_tally, record_in, tally_at};
-ghost use Rattle.rb_chapter_ring.specs.StandingValue.{StandingValue};
+ghost use Rattle.rb_chapter_ring.specs.Snapshot.{no_record, no_tally, record_in, tally_at};
+ghost use Rattle.rb_chapter_ring.specs.SnapshotValue.{SnapshotValue};
 ghost use Rattle.rb_chapter_ring.specs.Chapters.{empty_ring};
 ghost use Rattle.rb_chapter_ring.specs.UntakenRecords.{untaken_shown};
-ghost use Rattle.rb_chapter_ring.specs.inner.StandingSteps.{with_refusal, with_grant, with_end, with_take};
+ghost use Rattle.rb_chapter_ring.specs.inner.SnapshotSteps.{with_refusal, with_grant, with_end, with_take};
 
 mod numbers;
 
 use crate::record_end::RecordEnd;
-use crate::standing_lists::{
+use crate::snapshot_lists::{
     are_same_records, are_same_tallies, count_end, count_made, front_of, remove_front, set_end,
 };
-pub use numbers::StandingNumbers;
+pub use numbers::SnapshotNumbers;
 use rb_history::{Tally, span};
 use std::alloc::{AllocError, Global};
 use std::marker::Model;
@@ -54,8 +54,8 @@ pub struct UntakenRecord {
 /// An opening: a summary of a ring's history where a chapter begins. It has the ring's parameters, both positions, the
 /// records that were not taken, and the totals of all entries before. Only its chapter creates and changes it.
 #[derive(Drop)]
-pub struct Standing {
-    numbers: StandingNumbers,
+pub struct Snapshot {
+    numbers: SnapshotNumbers,
     records: Vec<UntakenRecord>,
     // The index of the first untaken record; those before it were taken.
     first: usize,
@@ -63,13 +63,13 @@ pub struct Standing {
     tallies: Vec<Tally>,
 }
 
-impl Model for Standing {
+impl Model for Snapshot {
     ghost use Rattle.std.specs.Coded.{codes};
     ghost use Rattle.rb_history.specs.contracts.tally.Tally as tally_row;
-    ghost use Rattle.rb_chapter_ring.specs.StandingValue.{StandingValue};
-    ghost use Rattle.rb_chapter_ring.specs.inner.StandingBody.{opening_value, OpeningInvariant};
+    ghost use Rattle.rb_chapter_ring.specs.SnapshotValue.{SnapshotValue};
+    ghost use Rattle.rb_chapter_ring.specs.inner.SnapshotBody.{opening_value, OpeningInvariant};
 
-    ghost Value = { StandingValue };
+    ghost Value = { SnapshotValue };
 
     ghost coded = { Prim.hlevel (codes, tally_row.the_row.coded) };
 
@@ -78,15 +78,15 @@ impl Model for Standing {
     ghost invariant = { OpeningInvariant };
 }
 
-impl Standing {
+impl Snapshot {
     // Returns an opening of zeros, with room for `room` records.
-    pub(crate) fn of_zeros(alloc: Global, room: u32, workers: u32) -> Result<Standing, AllocError>
+    pub(crate) fn of_zeros(alloc: Global, room: u32, workers: u32) -> Result<Snapshot, AllocError>
         ensures zeros { IfOk result (λ o. o.opening ≡ empty_ring (record { size = 0; start = 0; workers = workers })) }
         ensures room { IfOk result (λ o. o.room ≡ room) }
         ensures passed { IfOk result (λ o. o.passed ≡ 0) }
     {
-        Ok(Standing {
-            numbers: StandingNumbers::of_ring(0, 0, workers),
+        Ok(Snapshot {
+            numbers: SnapshotNumbers::of_ring(0, 0, workers),
             records: Vec::with_capacity(alloc, room as usize)?,
             first: 0,
             tallies: vec![in alloc; Tally::none(); workers as usize]?,
@@ -99,14 +99,14 @@ impl Standing {
         ensures room { self.new.room ≡ self.old.room }
         ensures passed { self.new.passed ≡ 0 }
     {
-        self.numbers = StandingNumbers::of_ring(size, start, self.numbers.workers);
+        self.numbers = SnapshotNumbers::of_ring(size, start, self.numbers.workers);
         self.records.clear();
         self.first = 0;
         self.tallies.as_mut_slice().fill(Tally::none());
     }
 
     // Copies the contents of another opening. Does not allocate.
-    pub(crate) fn copy_from(&mut self, other: &Standing)
+    pub(crate) fn copy_from(&mut self, other: &Snapshot)
         requires room { length other.now.opening.records ≤ self.old.room }
         requires workers { self.old.opening.setup.workers ≡ other.now.opening.setup.workers }
         ensures same { self.new.opening ≡ other.now.opening }
@@ -122,7 +122,7 @@ impl Standing {
     }
 
     // Returns a copy, with room for at least `room` records.
-    pub(crate) fn try_clone(&self, alloc: Global, room: u32) -> Result<Standing, AllocError>
+    pub(crate) fn try_clone(&self, alloc: Global, room: u32) -> Result<Snapshot, AllocError>
         ensures same { IfOk result (λ o. o.opening ≡ self.now.opening) }
         ensures room { IfOk result (λ o. room ≤ o.room) }
         ensures passed { IfOk result (λ o. o.passed ≡ 0) }
@@ -131,7 +131,7 @@ impl Standing {
         records.extend_from_slice(self.records())?;
         let mut tallies = Vec::with_capacity(alloc, self.tallies.len())?;
         tallies.extend_from_slice(self.tallies())?;
-        Ok(Standing {
+        Ok(Snapshot {
             numbers: self.numbers,
             records,
             first: 0,
@@ -239,7 +239,7 @@ impl Standing {
     }
 
     // Returns whether both have the same contents. Takes time linear in the numbers of records and of workers.
-    pub(crate) fn is_same(&self, other: &Standing) -> bool
+    pub(crate) fn is_same(&self, other: &Snapshot) -> bool
         ensures exact { IsTrue result ↔ (self.now.opening ≡ other.now.opening) }
     {
         if !self.numbers.is_same(&other.numbers) {

@@ -1,8 +1,8 @@
 use Rattle.std.proofs.Common.{◌≡◌, Decides, map, ap, rules}
 use Rattle.std.proofs.lemmas.Slice.Eq.{slice_eq-Decides}
 use Rattle.rb_chapter_ring.specs.UntakenRecords.{untaken_shown}
-use Rattle.rb_chapter_ring.proofs.SameStanding.{same-records}
-use Rattle.rb_chapter_ring.proofs.standing_lists.are_same_records.Goals as goal
+use Rattle.rb_chapter_ring.proofs.SameSnapshot.{same-records}
+use Rattle.rb_chapter_ring.proofs.snapshot_lists.are_same_records.Goals as goal
 
 pub returns : goal.returns
 returns c =

@@ -1,12 +1,12 @@
 -- Two openings have the same contents if and only if their fields are equal.
 use Rattle.std.proofs.Common.{◌≡◌, List, [], ◌∷◌, drop, map, refl, ap}
 use Rattle.rb_history.specs.History.{Shown}
-use Rattle.rb_chapter_ring.specs.declared.standing.UntakenRecord.{UntakenRecord}
-use Rattle.rb_chapter_ring.specs.declared.standing.UntakenStatus.{UntakenStatus}
-use Rattle.rb_chapter_ring.specs.declared.standing.UntakenStatus.TheVariants.{Busy, Waiting, Discarded}
-use Rattle.rb_chapter_ring.specs.declared.standing.Standing.TheInside.{Inside}
+use Rattle.rb_chapter_ring.specs.declared.snapshot.UntakenRecord.{UntakenRecord}
+use Rattle.rb_chapter_ring.specs.declared.snapshot.UntakenStatus.{UntakenStatus}
+use Rattle.rb_chapter_ring.specs.declared.snapshot.UntakenStatus.TheVariants.{Busy, Waiting, Discarded}
+use Rattle.rb_chapter_ring.specs.declared.snapshot.Snapshot.TheInside.{Inside}
 use Rattle.rb_chapter_ring.specs.UntakenRecords.{status_shown, untaken_shown}
-use Rattle.rb_chapter_ring.specs.inner.StandingBody.{opening_shown}
+use Rattle.rb_chapter_ring.specs.inner.SnapshotBody.{opening_shown}
 
 same-status : (a b : UntakenStatus) → status_shown a ≡ status_shown b → a ≡ b
 same-status Busy Busy e = refl

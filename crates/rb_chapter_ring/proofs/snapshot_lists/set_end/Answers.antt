@@ -1,9 +1,9 @@
 use Rattle.std.proofs.Common.{drop, get_or, map, set, ap, ◌∙◌}
 use Rattle.rb_history.specs.History.{Status}
-use Rattle.rb_chapter_ring.specs.Standing.{no_record}
+use Rattle.rb_chapter_ring.specs.Snapshot.{no_record}
 use Rattle.rb_chapter_ring.specs.UntakenRecords.{untaken_shown}
 use Rattle.rb_chapter_ring.proofs.Places.{status-set}
-use Rattle.rb_chapter_ring.proofs.standing_lists.set_end.Goals as goal
+use Rattle.rb_chapter_ring.proofs.snapshot_lists.set_end.Goals as goal
 
 pub returns-clause-settled : goal.returns-clause-settled
 returns-clause-settled c =

@@ -13,7 +13,7 @@ use Rattle.rb_history.specs.WorkerCounts.{tally_of, events_of, skips_of, numbers
 -- The ring's parameters; the positions of the next grant and of the next take; the records that were not taken, in
 -- order, as a state shows them; each worker's totals, by its number; and how many takes returned a record and how many
 -- skipped one.
-pub record Standing : Type 0 where
+pub record Snapshot : Type 0 where
   pub setup : Setup
   pub producer : ℕ
   pub consumer : ℕ
@@ -23,8 +23,8 @@ pub record Standing : Type 0 where
   pub skipped : ℕ
 
 -- the summary of a whole history at its end
-abbrev pub standing_of : Setup → List Entry → Standing
-standing_of r h = record {
+abbrev pub snapshot_of : Setup → List Entry → Snapshot
+snapshot_of r h = record {
   setup = r;
   producer = producer_of r.start h;
   consumer = consumer_of r.start h;
@@ -39,7 +39,7 @@ abbrev pub no_tally : Tally
 no_tally = record { made = 0; refused = 0; submitted = 0; discarded = 0 }
 
 -- a worker's totals
-abbrev pub tally_at : Standing → ℕ → Tally
+abbrev pub tally_at : Snapshot → ℕ → Tally
 tally_at o w = get_or o.tallies w no_tally
 
 -- no record
@@ -47,7 +47,7 @@ abbrev pub no_record : Shown
 no_record = record { pos = 0; len = 0; worker = 0; serial = 0; status = Discarded }
 
 -- the record at an index, counted from the front
-abbrev pub record_in : Standing → ℕ → Shown
+abbrev pub record_in : Snapshot → ℕ → Shown
 record_in o i = get_or o.records i no_record
 
 -- the number of records with this status
@@ -55,7 +55,7 @@ abbrev pub shown_count : Status → List Shown → ℕ
 shown_count st ss = count_by (λ s. is_same st s.status) ss
 
 -- the six counts of the history that the opening summarizes
-abbrev pub counts_at : Standing → Counts
+abbrev pub counts_at : Snapshot → Counts
 counts_at o = record {
   made = sum_by (λ t. t.made) o.tallies;
   refused = sum_by (λ t. t.refused) o.tallies;

@@ -2,14 +2,14 @@
 
 ghost use Rattle.std.specs.Prelude.{◌≡◌, ◌+◌, ◌<◌, ◌^◌, ◌↔◌, IsTrue};
 ghost use Rattle.rb_chapter_ring.specs.UntakenRecords.{status_shown};
-ghost use Rattle.rb_chapter_ring.specs.inner.StandingNumbers.{first_numbers};
-ghost use Rattle.rb_chapter_ring.specs.inner.StandingSteps.{events_by, skips_by};
+ghost use Rattle.rb_chapter_ring.specs.inner.SnapshotNumbers.{first_numbers};
+ghost use Rattle.rb_chapter_ring.specs.inner.SnapshotSteps.{events_by, skips_by};
 
-use crate::{Standing, UntakenStatus};
+use crate::{Snapshot, UntakenStatus};
 
 /// The numbers of an opening: the parameters of the ring, both positions, and the totals of takes.
 #[derive(Clone, Copy, PartialEq, Eq)]
-pub struct StandingNumbers {
+pub struct SnapshotNumbers {
     /// The ring's size in bytes; 0 if the chapter belongs to no ring.
     pub size: u64,
     /// The ring's first position, in bytes.
@@ -26,12 +26,12 @@ pub struct StandingNumbers {
     pub skipped: u64,
 }
 
-impl StandingNumbers {
+impl SnapshotNumbers {
     /// Returns the numbers of a new ring.
-    pub(crate) fn of_ring(size: u64, start: u64, workers: u32) -> StandingNumbers
+    pub(crate) fn of_ring(size: u64, start: u64, workers: u32) -> SnapshotNumbers
         ensures first { result ≡ first_numbers size start workers }
     {
-        StandingNumbers {
+        SnapshotNumbers {
             size,
             start,
             workers,
@@ -56,17 +56,17 @@ impl StandingNumbers {
     }
 
     /// Returns whether all numbers are equal.
-    pub(crate) fn is_same(&self, other: &StandingNumbers) -> bool
+    pub(crate) fn is_same(&self, other: &SnapshotNumbers) -> bool
         ensures exact { IsTrue result ↔ (self.now ≡ other.now) }
     {
         *self == *other
     }
 }
 
-impl Standing {
+impl Snapshot {
     #[inline(always)]
     /// Returns the numbers, of which the totals are those before the chapter. Takes constant time.
-    pub fn numbers(&self) -> StandingNumbers
+    pub fn numbers(&self) -> SnapshotNumbers
         ensures size { result.size ≡ self.now.opening.setup.size }
         ensures start { result.start ≡ self.now.opening.setup.start }
         ensures workers { result.workers ≡ self.now.opening.setup.workers }

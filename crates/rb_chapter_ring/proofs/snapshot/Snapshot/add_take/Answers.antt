@@ -1,12 +1,12 @@
 use Rattle.std.proofs.Common.{◌+◌, ◌∙◌, ap, drop, get_or, map}
 use Rattle.rb_history.specs.Span.{span}
 use Rattle.rb_history.specs.History.{Shown}
-use Rattle.rb_chapter_ring.specs.StandingValue.{StandingValue}
-use Rattle.rb_chapter_ring.specs.Standing.{no_record}
+use Rattle.rb_chapter_ring.specs.SnapshotValue.{SnapshotValue}
+use Rattle.rb_chapter_ring.specs.Snapshot.{no_record}
 use Rattle.rb_chapter_ring.specs.UntakenRecords.{untaken_shown}
-use Rattle.rb_chapter_ring.specs.inner.StandingSteps.{with_take, events_by, skips_by}
+use Rattle.rb_chapter_ring.specs.inner.SnapshotSteps.{with_take, events_by, skips_by}
 use Rattle.rb_chapter_ring.proofs.Places.{one-dropped}
-use Rattle.rb_chapter_ring.proofs.standing.Standing.add_take.Goals as goal
+use Rattle.rb_chapter_ring.proofs.snapshot.Snapshot.add_take.Goals as goal
 
 pub returns-clause-taken : goal.returns-clause-taken
 returns-clause-taken c =
@@ -35,4 +35,4 @@ returns-clause-taken c =
       consumed = consumed i;
       skipped = skipped i;
     })
-    ∙ ap (λ (v : StandingValue). with_take v.opening) c.self.view_is
+    ∙ ap (λ (v : SnapshotValue). with_take v.opening) c.self.view_is

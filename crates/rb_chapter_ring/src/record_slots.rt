@@ -2,7 +2,7 @@
 
 ghost use Rattle.std.specs.Prelude.{◌≡◌, ◌<◌, ◌%◌, IfSome, IfNone, length, map, slice_index_or};
 ghost use Rattle.std.specs.Int.{IsPowerOfTwo};
-ghost use Rattle.rb_chapter_ring.specs.Standing.{no_record};
+ghost use Rattle.rb_chapter_ring.specs.Snapshot.{no_record};
 ghost use Rattle.rb_chapter_ring.specs.UntakenRecords.{untaken_shown};
 ghost use Rattle.rb_chapter_ring.specs.inner.EndSteps.{slots_with_end};
 

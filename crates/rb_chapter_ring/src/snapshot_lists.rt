@@ -1,12 +1,12 @@
 //! The lists of an opening: its records, and its workers' totals.
 
 ghost use Rattle.std.specs.Prelude.{◌≡◌, ◌+◌, ◌<◌, ◌≤◌, ◌^◌, ◌↔◌, IsTrue, drop, length, map, replicate, slice_index_or, slice_set, vec_len, vec_capacity};
-ghost use Rattle.rb_chapter_ring.specs.Standing.{no_record, no_tally};
+ghost use Rattle.rb_chapter_ring.specs.Snapshot.{no_record, no_tally};
 ghost use Rattle.rb_chapter_ring.specs.UntakenRecords.{untaken_shown};
 ghost use Rattle.rb_chapter_ring.specs.RecordEnds.{status_of_end, tally_with_end};
 
 use crate::record_end::RecordEnd;
-use crate::standing::UntakenRecord;
+use crate::snapshot::UntakenRecord;
 use rb_history::Tally;
 
 /// Returns whether the records are the same.
