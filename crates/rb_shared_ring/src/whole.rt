@@ -7,7 +7,7 @@ ghost use Rattle.rb_chapter_ring.specs.WholeHistory.{IsBound};
 ghost use Rattle.rb_ledger.specs.ChapterClosing.{AreNumberedFrom, EachGoesOn};
 ghost use Rattle.rb_shared_ring.specs.BoundSeats.{IsNotBound, TiesAllSeats, GathersAllSeats};
 
-use crate::closing::Closing;
+use crate::closed_ring::Closing;
 use rb_chapter_ring::Chapter;
 use rb_history::Entry;
 use rb_ledger::{BindFault, bind_chapters};

@@ -4,7 +4,7 @@ use Rattle.rb_shared_ring.specs.inner.HandCalls.{LeavesHands}
 use Rattle.rb_shared_ring.proofs.HandPassing.{called-in-hands, chapter-idle}
 use Rattle.rb_shared_ring.proofs.ConsumerPassing.{put-take, took-one}
 use Rattle.rb_shared_ring.proofs.TakerPassing.{put-taker, put-back-chapter, leaves-taker}
-use Rattle.rb_shared_ring.proofs.taking.take_with.Goals as goal
+use Rattle.rb_shared_ring.proofs.takes.take_with.Goals as goal
 
 pub with_state-requires-clause-step : goal.with_state-requires-clause-step
 with_state-requires-clause-step g c answer out old new took called kept =

@@ -4,7 +4,7 @@ use Rattle.rb_ledger.proofs.Gathers.{rest-rings, all-each}
 use Rattle.rb_ledger.specs.HandKnowledge.{HandPassView}
 use Rattle.rb_ledger.proofs.HandLock.{merges}
 use Rattle.rb_shared_ring.proofs.GatheredSeats.{gather-more, knew-more}
-use Rattle.rb_shared_ring.proofs.closing.gather.Goals as goal
+use Rattle.rb_shared_ring.proofs.closed_ring.gather.Goals as goal
 
 pub absorb-requires-clause-rule : goal.absorb-requires-clause-rule
 absorb-requires-clause-rule c = merges _ _ _ _ (ap (λ (v : HandPassView). v.out) c.into_pass-own.ensures.knows)

@@ -3,7 +3,7 @@ use Rattle.rb_ledger.specs.Roles.Role.{Consumer}
 use Rattle.rb_shared_ring.proofs.HandPassing.{chapter-idle, took-tagged}
 use Rattle.rb_shared_ring.proofs.ConsumerPassing.{put-takes, took-many}
 use Rattle.rb_shared_ring.proofs.TakerPassing.{put-taker, put-back-chapter, leaves-taker}
-use Rattle.rb_shared_ring.proofs.taking.take_many_with.Goals as goal
+use Rattle.rb_shared_ring.proofs.takes.take_many_with.Goals as goal
 
 pub put_back-requires-clause-step : goal.put_back-requires-clause-step
 put_back-requires-clause-step g c =

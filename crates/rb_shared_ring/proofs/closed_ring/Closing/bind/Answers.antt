@@ -2,7 +2,7 @@ use Rattle.std.proofs.Common.{List, subst}
 use Rattle.rb_chapter_ring.specs.Chapters.{Chapter}
 use Rattle.rb_chapter_ring.specs.WholeHistory.{IsBound}
 use Rattle.rb_ledger.proofs.BoundChapters.{tied-once-bound, gathered-at}
-use Rattle.rb_shared_ring.proofs.closing.Closing.bind.Goals as goal
+use Rattle.rb_shared_ring.proofs.closed_ring.Closing.bind.Goals as goal
 
 pub returns-in-Ok-clause-history : goal.returns-in-Ok-clause-history
 returns-in-Ok-clause-history c =

@@ -9,7 +9,7 @@ use Rattle.rb_ledger.specs.Roles.{Book}
 use Rattle.rb_ledger.specs.Seats.{IsBook, fresh_book, fresh_seat, fresh_seats}
 use Rattle.rb_ledger.proofs.Opens.{seats-more}
 use Rattle.rb_shared_ring.proofs.OpenedSeats.{first-ring, next-consumer, opened-book, next-worker}
-use Rattle.rb_shared_ring.proofs.opening.open.Goals as goal
+use Rattle.rb_shared_ring.proofs.opened_ring.open.Goals as goal
 
 pub new_seat-seat-requires-clause-role : goal.new_seat-seat-requires-clause-role
 new_seat-seat-requires-clause-role g c = (next-worker (fresh_book c.args.size c.args.start c.args.workers) _ _ _ _ c.loop-worker-test.true c.loop-worker.invariant.1).first_is

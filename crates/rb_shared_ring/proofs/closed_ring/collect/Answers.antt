@@ -8,7 +8,7 @@ use Rattle.rb_ledger.proofs.ChapterGathers.{closed-where-gathered, known-last}
 use Rattle.rb_ledger.specs.ChapteredRing.{ChapteredRing}
 use Rattle.rb_ledger.specs.HandKnowledge.{HandPassView, without_hands}
 use Rattle.rb_ledger.specs.HandedOut.{KnewHandedOut}
-use Rattle.rb_shared_ring.proofs.closing.collect.Goals as goal
+use Rattle.rb_shared_ring.proofs.closed_ring.collect.Goals as goal
 
 pub gather-requires-clause-seats : goal.gather-requires-clause-seats
 gather-requires-clause-seats g c = subst (λ t. All (λ s. s.ring ≡ t) c.args.seats.items) (sym c.into_pass-pass.ensures.ring.0) c.requires.seats

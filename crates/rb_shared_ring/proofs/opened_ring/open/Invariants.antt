@@ -3,7 +3,7 @@ use Rattle.crossbeam_queue.specs.Passes.{view, IsSamePass}
 use Rattle.rb_ledger.specs.Seats.{fresh_book, fresh_seats}
 use Rattle.rb_ledger.specs.HandKnowledge.{hand_view}
 use Rattle.rb_ledger.specs.HandLockSteps.{opening_worker_hands}
-use Rattle.rb_shared_ring.proofs.opening.open.Given as goal
+use Rattle.rb_shared_ring.proofs.opened_ring.open.Given as goal
 
 abbrev pub invariant-loop-worker : goal.invariant-loop-worker
 invariant-loop-worker g l =

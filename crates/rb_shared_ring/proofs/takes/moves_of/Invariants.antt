@@ -1,6 +1,6 @@
 use Rattle.std.proofs.Common.{◌≡◌, take}
 use Rattle.rb_ledger.specs.ManyTakes.{events_among, skips_among, span_among}
-use Rattle.rb_shared_ring.proofs.taking.moves_of.Given as goal
+use Rattle.rb_shared_ring.proofs.takes.moves_of.Given as goal
 
 abbrev pub invariant-loop-answer : goal.invariant-loop-answer
 invariant-loop-answer l = record {

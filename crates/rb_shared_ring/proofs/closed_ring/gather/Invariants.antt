@@ -7,7 +7,7 @@ use Rattle.rb_ledger.specs.HandKnowledge.{AllKnowHands}
 use Rattle.rb_ledger.specs.HandedOut.{KnewHandedOut}
 use Rattle.rb_ledger.specs.SeatRoles.{roles_of, HasOwnCounts}
 use Rattle.rb_shared_ring.proofs.GatheredSeats.{HasGathered}
-use Rattle.rb_shared_ring.proofs.closing.gather.Given as goal
+use Rattle.rb_shared_ring.proofs.closed_ring.gather.Given as goal
 
 abbrev pub invariant-loop-seat : goal.invariant-loop-seat
 invariant-loop-seat l =
