@@ -75,7 +75,7 @@ const CHECK: CommandRow = CommandRow {
 
 const EXPLAIN: CommandRow = CommandRow {
     name: "explain",
-    about: "Explains a program, given as text in hex: what is known before each instruction and what it can cost at most, or what is wrong and how to mend it",
+    about: "Explains a program, given as text in hex: what is known before each instruction and what it can cost at most, or what is wrong and how to fix it",
     example: "Example: tools/bpf-hex examples/c/event.c | rbhost explain",
     options: &[CTX, RINGS, PORTABLE, JSON, WHY, NO_WHY, FILE],
 };
@@ -202,5 +202,5 @@ const PORTABLE: OptionRow = OptionRow {
 const DRAW: OptionRow = OptionRow {
     name: "draw",
     shape: OptionShape::Flag,
-    help: "Draw each ring as a line behind each turn",
+    help: "Draw each ring as one line after each turn",
 };

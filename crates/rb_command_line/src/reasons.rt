@@ -115,8 +115,9 @@ fn rule_reason(
 // Returns where the author of a program finds out more.
 fn mending(request: &Subcommand<'_>) -> &'static str {
     match request {
-        Subcommand::Explain { .. } => "standard output has what it wants and how programs mend it",
-        _ => "`rbhost explain` says what it wants and how programs mend it",
+        Subcommand::Explain { .. } =>
+            "standard output shows what is required and how to fix the program",
+        _ => "`rbhost explain` shows what is required and how to fix the program",
     }
 }
 
@@ -155,7 +156,7 @@ fn text_reason(alloc: Global, input: &str, front: Front) -> Result<String, Alloc
             "{input} has {} hex digits, and a byte has two",
             front.digits
         ),
-        None => format!(in alloc; "{input} is no text in hex"),
+        None => format!(in alloc; "{input} is not text in hex"),
     }
 }
 
@@ -208,24 +209,24 @@ fn record_reason(
     input: &str,
 ) -> Result<String, AllocError> {
     if kind == TapeKind::Truncated {
-        return format!(in alloc; "the record behind {offset} bytes: {input} ends inside it");
+        return format!(in alloc; "the record at byte {offset}: {input} ends inside it");
     }
     let words = record_words(kind);
-    format!(in alloc; "the record behind {offset} bytes: {words}")
+    format!(in alloc; "the record at byte {offset}: {words}")
 }
 
 // Returns what is wrong with a record of a tape.
 fn record_words(kind: TapeKind) -> &'static str {
     match kind {
-        TapeKind::Busy => "its header has the busy bit, which no record that was taken has",
+        TapeKind::Busy => "its header has the busy bit, which no consumed record has",
         TapeKind::Page => {
-            "its header names another page than its position has, as with another --size or --start"
+            "its header has the page offset of another position: check --size and --start"
         }
-        TapeKind::Padding => "the bytes that fill it up to eights are not zeros",
-        TapeKind::TooLong => "it has no room in a ring of this --size, or ends past position 2^62",
-        TapeKind::DiscardedBytes => "it was discarded, and its bytes are not zeros",
-        TapeKind::Truncated => "it is cut off",
-        TapeKind::Memory => "there is no memory for it",
+        TapeKind::Padding => "its padding to a multiple of 8 bytes is not zeros",
+        TapeKind::TooLong => "it does not fit in a ring of this --size, or ends past position 2^62",
+        TapeKind::DiscardedBytes => "it was discarded, but its bytes are not zeros",
+        TapeKind::Truncated => "it is truncated",
+        TapeKind::Memory => "there is not enough memory for it",
     }
 }
 

@@ -117,13 +117,13 @@ const EVERY: OptionRow = OptionRow {
 const LATE: OptionRow = OptionRow {
     name: "late",
     shape: OptionShape::Value("LATE"),
-    help: "What happens if all workers are behind: block makes the input wait (the default), drop drops contexts and counts them",
+    help: "What happens to a batch of contexts when all workers are busy: block makes the input wait (the default), drop drops the batch and counts its contexts",
 };
 
 const FULL: OptionRow = OptionRow {
     name: "full",
     shape: OptionShape::Value("FULL"),
-    help: "What happens if a ring may be full: refuse refuses records and counts them (the default), wait makes workers wait, so that no record is refused",
+    help: "What happens when a ring may be full: refuse refuses records and counts them (the default), wait makes the workers wait, so that no record is refused",
 };
 
 const RESULTS: OptionRow = OptionRow {

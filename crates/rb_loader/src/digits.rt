@@ -1,4 +1,4 @@
-//! The hex digits of a text, as many as are needed.
+//! The hex digits of a text, up to a bound.
 
 ghost use Rattle.std.specs.Prelude.{◌≡◌, ◌++◌, ◌∷◌, [], ℕ, List, true, false, IfOk, string_bytes};
 ghost use Rattle.std.specs.List.{list_all};
@@ -8,11 +8,11 @@ ghost use Rattle.rb_loader.specs.inner.Digits.{KeepsOf, has_odd, one_more, short
 use std::alloc::{AllocError, Global};
 use std::marker::Model;
 
-// The most digits that are kept: those of a program and of two more units, the last of which is dropped once it is
-// complete.
+// The capacity: the digits of the longest program and of two more units. When the list is full, the last unit is
+// dropped.
 const MOST: usize = 65_568;
 
-// How many digits are left then.
+// The number of digits after the last unit is dropped.
 const STAY: usize = 65_552;
 
 /// The hex digits of a text that is read in pieces.

@@ -1,9 +1,9 @@
-//! The system, as threads call it.
+//! Access to the system for threads.
 
-/// Has the system.
+/// A runtime through which threads can reach the system.
 ///
-/// A thread may call through a type parameter only what the parameter's bounds promise in each thread. The bound of the
-/// system's files does not, since their type is a part of it. So what threads call is passed as the system itself.
+/// A thread may call through a type parameter only what the parameter's bounds promise in every thread. `Files` promises
+/// that only for one type of files, which the parameter chooses. So threads get the system itself.
 pub trait Host {
     /// Returns the system.
     fn host(&self) -> &HostRuntime;

@@ -40,7 +40,8 @@ pub struct SegmentFolder<'a> {
 pub struct MetricsFile<'a> {
     /// Its path. The file is written under this name with `.new` appended, and renamed.
     pub path: &'a str,
-    /// Every so many seconds it is written again while the stream runs. It is always written at the end; if this is 0, only then.
+    /// The number of seconds after which it is written again while the stream runs. It is always written at the end, and
+    /// only then if this is 0.
     pub every: u64,
 }
 

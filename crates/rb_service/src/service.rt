@@ -25,10 +25,11 @@ use std::sync::Wait;
 use std::thread::Threads;
 use thiserror::Error;
 
-/// What happens to records for which a ring has no room.
+/// What happens to records that do not fit in a ring.
 #[derive(Clone, Copy, Debug, PartialEq, Eq)]
 pub enum Full {
-    /// There are none: before a worker runs contexts, it waits until each ring has room for all their records.
+    /// No such records exist: before a worker runs a batch of contexts, it waits until every ring has room for all of
+    /// their records.
     Wait,
     /// The ring refuses them.
     Refuse,
@@ -41,7 +42,7 @@ pub struct ServiceRequest {
     pub workers: u32,
     /// What happens to contexts when the queues of all workers are full.
     pub late: Late,
-    /// What happens to records for which a ring has no room.
+    /// What happens to records that do not fit in a ring.
     pub full: Full,
     /// Results below this bound are counted individually.
     pub results: u32,

@@ -11,8 +11,8 @@ use rb_io::{DeviceFault, Outgoing};
 use rb_tape::{Item, TapeWriter};
 use std::io::Write;
 
-/// Writes the record as `TapeWriter::put` does, and writes its rest again after each failed write, as long as `retries`
-/// last. Each retry uses one; no other writes are repeated. Returns an error only when none is left.
+/// Writes the record as `TapeWriter::put` does. After a failed write, tries to write the rest of the record again and
+/// decrements `retries`. Returns an error if a write fails when `retries` is 0.
 pub(crate) fn put_with_retries<W: Write>(
     tape: &mut TapeWriter<W>,
     item: &Item<'_>,
@@ -44,8 +44,8 @@ pub(crate) fn put_with_retries<W: Write>(
     Err(DeviceFault)
 }
 
-/// Makes the tape's writer flush, again after each failure, as long as `retries` last; each failure uses one. Returns
-/// an error only when none is left.
+/// Makes the tape's writer flush. After a failure, tries again and decrements `retries`. Returns an error if it fails
+/// when `retries` is 0.
 pub(crate) fn write_tape_out<W: Outgoing>(
     tape: &mut TapeWriter<W>,
     retries: &mut u32,

@@ -49,7 +49,7 @@ COMMANDS = (
     ("rb_tape_commands", "tape"),
     ("rb_script", "sim"),
     ("rb_service", "stream"),
-    ("rb_follow", "follow"),
+    ("rb_tape_commands", "follow"),
 )
 HEADER = "| Call, law or command | Clauses | Definitions | Lines | Characters | Files |"
 RULE = "|---|---|---|---|---|---|"
