@@ -11,14 +11,19 @@
 //!
 //! `RingState` is the ring, for one thread; its reservations name its tag. A shared ring keeps one under its lock.
 //!
+//! The test `example_of_ring_state` of `rb_stream_tests` runs these lines:
+//!
 //! ```text
-//! let mut ring = RingState::new(rt.alloc(), 7, 4096, 0, 1, 8)?;
-//! let Ok(record) = ring.reserve(0, 2, 4, Sheet::new(rt.alloc(), 4)?) else {   // into hand 2 of worker 0
+//! let alloc = rt.alloc();
+//! // tag 7, 4,096 bytes, start 0, one worker, chapters of 8 entries
+//! let mut ring = RingState::new(alloc, 7, 4096, 0, 1, 8)?;
+//! // four bytes, into hand 2 of worker 0
+//! let Ok(record) = ring.reserve(0, 2, 4, Sheet::new(alloc, 4)?) else {
 //!     return Err(Fail::from("no record"));
 //! };
 //! assert_eq!(rt; (record.tag(), record.hand()), (7, 2));
-//! assert!(rt; matches!(ring.submit(record, 0), Notice::Due));
-//! let Ok(chapter) = ring.hand_out(Chapter::new(rt.alloc(), 8, 1)?) else {
+//! assert_eq!(rt; ring.submit(record, 0), Notice::Due);
+//! let Ok(chapter) = ring.hand_out(Chapter::new(alloc, 8, 1)?) else {
 //!     return Err(Fail::from("no chapter"));
 //! };
 //! assert_eq!(rt; (chapter.number(), chapter.used()), (0, 2));

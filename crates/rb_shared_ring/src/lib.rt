@@ -16,25 +16,36 @@
 //! reservation is a stranger to its ring: until its seat commits it (by a submit or a discard), it is busy there, and
 //! the commit is not refused (`rb_ledger`).
 //!
+//! The test `example_of_shared_ring` of `rb_stream_tests` runs these lines:
+//!
 //! ```text
+//! let alloc = rt.alloc();
 //! // tag 7, 4,096 bytes, start 0, one worker, chapters of 8 entries
-//! let (ring, mut seats, mut consumer) = open(rt, alloc, 7, 4096, 0, 1, 8)?;
-//! let mut seat = seats.pop()?;
-//! // the record names tag 7 and hand 0, and `seat.hand(0)` is `Some(0)`
-//! let record = ring.reserve(rt, &mut seat, 8, Sheet::new(alloc, 8)?)?;
-//! // hand 0 is free again
-//! ring.submit(rt, &mut seat, record, 0)?;
-//! // (2, 1): two entries, and a take is owed
-//! ring.used(rt, &mut consumer)?;
-//! let chapter = ring.hand_out(rt, &mut consumer, Chapter::new(alloc, 8, 1)?)?;
-//! // Taken::Event(0, 0, 0, ..), in chapter 1
-//! ring.take(rt, &mut consumer)?;
+//! let (ring, mut seats, mut consumer) = open(&rt, alloc, 7, 4096, 0, 1, 8)?;
+//! let Some(mut seat) = seats.pop() else {
+//!     return Err(Fail::from("no seat"));
+//! };
+//! let Ok(record) = ring.reserve(&rt, &mut seat, 8, Sheet::new(alloc, 8)?) else {
+//!     return Err(Fail::from("no record"));
+//! };
+//! // the record is in flight, in hand 0 of the seat
+//! assert_eq!(rt; (record.tag(), record.hand()), (7, 0));
+//! assert!(rt; matches!(ring.submit(&rt, &mut seat, record, 0), Ok(Notice::Due)));
+//! // two entries, and the take that the record will log
+//! assert_eq!(rt; ring.used(&rt, &mut consumer), Ok((2, 1)));
+//! let Ok(chapter) = ring.hand_out(&rt, &mut consumer, Chapter::new(alloc, 8, 1)?) else {
+//!     return Err(Fail::from("no chapter"));
+//! };
+//! assert!(rt; matches!(ring.take(&rt, &mut consumer), Ok(Taken::Event(0, 0, 0, _))));
 //! seats.push(seat)?;
-//! // the last chapter is number 1
-//! let closing = ring.close(rt, seats, consumer)?;
-//! // `chapters` has the one that was handed out; `history` returns three entries
-//! let whole = closing.bind(alloc, chapters)?;
-//! whole.history();
+//! let Ok(closing) = ring.close(&rt, seats, consumer) else {
+//!     return Err(Fail::from("a seat is missing"));
+//! };
+//! let Ok(whole) = closing.bind(alloc, vec![in alloc; chapter]?) else {
+//!     return Err(Fail::from("not bound"));
+//! };
+//! // the reservation, the submit and the take
+//! assert_eq!(rt; whole.history().len(), 3);
 //! ```
 //!
 //! The proofs do not cover waiting, fairness or time: that a call returns, that a thread gets its turn, how long a lock

@@ -5,6 +5,8 @@
 #[cfg(test)]
 mod dealt;
 #[cfg(test)]
+mod examples;
+#[cfg(test)]
 mod followed;
 #[cfg(test)]
 mod framed_streams;

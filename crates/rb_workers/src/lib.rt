@@ -16,6 +16,39 @@
 //! What holds for every interleaving of the same programs in turns, without threads, is compared with this in
 //! docs/PROOF_STATUS.md, "Every interleaving, and running threads".
 //!
+//! The test `example_of_run_jobs` of `rb_stream_tests` runs these lines:
+//!
+//! ```text
+//! let alloc = rt.alloc();
+//! // outputs the first eight bytes of the context to ring 0, and returns the answer
+//! let text = "bf12000000000000 1851000000000000 0000000000000000
+//!     b703000008000000 b704000000000000 8500000082000000 9500000000000000";
+//! let program = verify(alloc, shape(alloc, from_text(alloc, text)?)?, 16, 1)?;
+//! // tag 0, 4,096 bytes, start 0, two workers
+//! let (room, margin) = (chapter_room(4096), chapter_margin(4096));
+//! let sink = NullSink { position: 0 };
+//! let ring = Opened::open(&rt, alloc, 0, 4096, 0, 2, room, margin, sink)?;
+//! let jobs = [
+//!     Job {
+//!         worker: 0,
+//!         program: &program,
+//!         ctx: &[1; 16],
+//!     },
+//!     Job {
+//!         worker: 1,
+//!         program: &program,
+//!         ctx: &[2; 16],
+//!     },
+//! ];
+//! let Ok(report) = run_jobs(&rt, alloc, vec![in alloc; ring]?, &jobs, &OpenGate) else {
+//!     return Err(Fail::from("no report"));
+//! };
+//! assert_eq!(rt; report.answers.as_slice(), [Ok(0), Ok(0)].as_slice());
+//! for ended in &report.rings {
+//!     assert_eq!(rt; ended.closing.counts().consumed, 2);
+//! }
+//! ```
+//!
 //! Waiting, fairness and time are outside of the proofs: whether a run ends, whether work is done in separate threads,
 //! how often a keeper looks, when a record reaches its sink, and what a gate does.
 #![tactic(auto)]
