@@ -13,7 +13,7 @@ ghost use Rattle.heskavo_c.specs.Writing.{WritesFront};
 
 use crate::outgoing::put_parts;
 use crate::status::{ARGUMENT, DONE, FAULT, MORE, ROOM};
-use rb_history::{Header, is_size, is_start, page_of, span};
+use rb_history::{Header, MAX_RECORD_LEN, is_size, is_start, page_of, span};
 use rb_tape::{Record, Tape, TapeKind};
 
 /// The record at the front of a tape's bytes, or its fault.
@@ -112,7 +112,7 @@ pub extern "C" fn heskavo_tape_next(
 fn has_room_at(size: u64, position: u64, len: u64) -> bool
     ensures { IsTrue result ↔ HasRoomAt size position len }
 {
-    if !is_size(size) || !is_start(position) || len >= 1 << 30 {
+    if !is_size(size) || !is_start(position) || len > u64::from(MAX_RECORD_LEN) {
         return false;
     }
     span(len as u32) < size

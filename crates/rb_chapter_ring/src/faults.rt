@@ -7,10 +7,10 @@ use thiserror::Error;
 #[derive(Clone, Copy, Debug, Error, PartialEq, Eq)]
 pub enum OpenFault {
     /// The size in bytes is not a power of two from 4,096 to 67,108,864.
-    #[error("the size is no power of two from 4096 to 67108864")]
+    #[error("the size is not a power of two from 4096 to 67108864")]
     Size,
     /// The start is not a multiple of 8, or is greater than 2^61.
-    #[error("the start is no multiple of 8 up to 2^61")]
+    #[error("the start is not a multiple of 8 up to 2^61")]
     Start,
     /// The number of workers is not in 1 to 256.
     #[error("the number of workers is not 1 to 256")]

@@ -31,7 +31,7 @@ pub fn line_reason(alloc: Global, script: &[u8], line: usize) -> Result<String, 
         front.add(line_of(bytes));
         rest = behind;
     }
-    format!(in alloc; "line {line} is behind the last one: a script has at least one worker")
+    format!(in alloc; "line {line} is after the last one: a script has at least one worker")
 }
 
 impl EarlierLines {
@@ -128,7 +128,9 @@ fn turns_reason(
         Actor::Consumer(ring) | Actor::Keeper(ring) => ("ring", ring, front.rings),
     };
     if front.workers == 0 {
-        return format!(in alloc; "line {line}: at least one worker stands before the first turn");
+        return format!(in alloc;
+            "line {line}: at least one worker must come before the first turn"
+        );
     }
     if u64::from(number) >= many {
         return format!(in alloc;
@@ -137,7 +139,7 @@ fn turns_reason(
     }
     if front.turns > 0 && count > 0 {
         return format!(in alloc;
-            "line {line}: {count} turns behind {}, and a script has 1 to 1000000 in all",
+            "line {line}: {count} turns after {} earlier ones, and a script has 1 to 1000000 in all",
             front.turns
         );
     }
@@ -149,7 +151,7 @@ fn form_of(bytes: &[u8]) -> &'static str {
     if bytes.starts_with(b"ring") {
         "expected `ring SIZE START` or `ring SIZE START ROOM`: a power of two from 4096 to 67108864, a multiple of 8 up to 2305843009213693952, and 8 to 1048576"
     } else if bytes.starts_with(b"worker") {
-        "expected `worker HEX` or `worker HEX CTXHEX`: a program and its context in hex, parted by one space"
+        "expected `worker HEX` or `worker HEX CTXHEX`: a program and its context in hex, separated by one space"
     } else if bytes.starts_with(b"w ") {
         "expected `w I` or `w I COUNT`: a worker's number and how many turns it takes, in decimal digits"
     } else if bytes.starts_with(b"c ") {
@@ -157,6 +159,6 @@ fn form_of(bytes: &[u8]) -> &'static str {
     } else if bytes.starts_with(b"k ") {
         "expected `k R`: a ring's number in decimal digits"
     } else {
-        "expected `ring`, `worker`, `w`, `c` or `k` with words behind it, each parted by one space, in ASCII"
+        "expected `ring`, `worker`, `w`, `c` or `k`, then its words, separated by single spaces, in ASCII"
     }
 }

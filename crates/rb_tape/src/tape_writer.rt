@@ -40,7 +40,7 @@ impl<W> Model for TapeWriter<W> {
 }
 
 impl<W: Write> TapeWriter<W> {
-    ghost use Rattle.std.specs.Prelude.{◌≡◌, ◌<◌, ◌≤◌, ◌+◌, [], None, Some, is_ok, is_some, if◌then◌else◌, take, drop, OnOk, OnErr, IfErr};
+    ghost use Rattle.std.specs.Prelude.{◌≡◌, ◌<◌, ◌≤◌, ◌+◌, [], None, Some, is_ok, if◌then◌else◌, take, drop, OnOk, OnErr, IfErr};
     ghost use Rattle.std.specs.Io.KnownBytes.{Appends};
     ghost use Rattle.rb_history.specs.TapeBytes.{item_bytes, item_span, tape, end_of, IsItemAt, AreItemsFrom};
     ghost use Rattle.rb_history.specs.RingModel.{IsRingSize, IsStartPosition};
@@ -171,14 +171,6 @@ impl<W: Write> TapeWriter<W> {
         ensures value { result ≡ self.now.position }
     {
         self.position
-    }
-
-    /// Returns whether the last record is unfinished, so that `resume` must write its rest before another record is
-    /// put.
-    pub fn is_unfinished(&self) -> bool
-        ensures value { result ≡ is_some self.now.unfinished }
-    {
-        self.unfinished.is_some()
     }
 
     /// Returns a reference to the underlying writer.

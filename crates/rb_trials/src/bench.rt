@@ -5,13 +5,13 @@
 //! its nanoseconds and how many records or jobs were refused. With the argument `payloads` it writes the input for the
 //! measurement of `rbhost feed`.
 
-mod interpreting;
+mod interpreter;
 mod jobs;
 mod one_thread;
 mod payloads;
 mod programs;
-mod repeated;
-mod stored;
+mod repeated_context;
+mod stored_run;
 mod streams;
 mod threads;
 mod timing;
@@ -33,7 +33,7 @@ pub(crate) fn run<R: Threads + Wait + Sync + Print + Clock, W: Write>(
     out: &mut W,
 ) -> Result<(), TrialFault> {
     let [word, numbers @ ..] = words else {
-        return stored::run(rt, alloc);
+        return stored_run::run(rt, alloc);
     };
     match word.as_str() {
         "time" => timing::run(rt, alloc, Workload::read(numbers)?),

@@ -7,12 +7,12 @@
 
 mod bench;
 mod fault;
-mod loading;
 mod numbers;
 mod orders;
 mod ring_lists;
 mod soak;
 mod sweep;
+mod verified_programs;
 
 use fault::TrialFault;
 use std::alloc::Global;

@@ -11,7 +11,7 @@ mod consumer;
 mod draw;
 mod plan;
 mod ring_round;
-mod seen;
+mod seen_records;
 mod sums;
 mod worker;
 

@@ -190,7 +190,7 @@ fn jobs_of<'j, A: Abort>(rt: &A, alloc: Global, program: &'j Verified, count: u3
     jobs
 }
 
-// The ring of a run of so many jobs of a program, at its end.
+// Returns the ring after a run of `count` jobs of a program.
 fn run<'g, R: Threads + Wait + Sync + Abort>(
     rt: &R,
     alloc: Global,

@@ -4,10 +4,10 @@ ghost use Rattle.std.specs.Prelude.{IfOk};
 ghost use Rattle.rb_workers.specs.Opened.{AreOpened};
 
 use super::programs::RESERVING;
-use super::repeated::ContextLen;
+use super::repeated_context::ContextLen;
 use crate::fault::TrialFault;
-use crate::loading::verified;
 use crate::ring_lists::list_of_one;
+use crate::verified_programs::verified;
 use rb_interp::RunFault;
 use rb_program::decode;
 use rb_verifier::Verified;

@@ -3,7 +3,7 @@
 ghost use Rattle.rb_workers.specs.Opened.{AreOpened};
 
 use super::jobs::opened;
-use super::repeated::RepeatedContext;
+use super::repeated_context::RepeatedContext;
 use crate::fault::TrialFault;
 use rb_stream::{Late, StreamReport, run_stream};
 use rb_stream_worker::{CountOptions, LiveCounts};

@@ -2,11 +2,11 @@
 
 ghost use Rattle.rb_workers.specs.Opened.{AreOpened};
 
-use super::interpreting::{load_often, loaded, run_rounds};
+use super::interpreter::{load_often, loaded, run_rounds};
 use super::jobs::{jobs_of, opened, reserving_program, run_all};
 use super::one_thread::{output_and_take, reserve_and_submit};
 use super::programs::{Body, program_of};
-use super::repeated::{ContextLen, RepeatedContext};
+use super::repeated_context::{ContextLen, RepeatedContext};
 use super::streams::{Start, stream_all};
 use super::threads::share;
 use super::workload::Workload;

@@ -1,6 +1,6 @@
 //! The workloads that are measured, and the arguments that name them.
 
-use super::repeated::ContextLen;
+use super::repeated_context::ContextLen;
 use super::streams::Start;
 use crate::fault::TrialFault;
 use crate::numbers::small;

@@ -1,7 +1,7 @@
 //! The plan: workers with their steps, and takes.
 
 use crate::fault::TrialFault;
-use crate::loading;
+use crate::verified_programs;
 use rb_program::from_text;
 use rb_verifier::Verified;
 use std::alloc::Global;
@@ -87,7 +87,7 @@ fn steps_of(alloc: Global, word: &str) -> Result<Vec<u32>, TrialFault> {
 // Returns a program, verified for no context and one ring.
 fn verified(alloc: Global, text: &str) -> Result<Verified, TrialFault> {
     match from_text(alloc, text) {
-        Ok(program) => loading::verified(alloc, program, 0, 1),
+        Ok(program) => verified_programs::verified(alloc, program, 0, 1),
         Err(_) => Err(TrialFault::Refused),
     }
 }

@@ -6,7 +6,7 @@ ghost use Rattle.rb_for_tests.specs.OwnSeats.{HasOwnSeats};
 
 use super::consumer::{BATCH, SoakDesk};
 use super::plan::SoakPlan;
-use super::seen::SeenRecords;
+use super::seen_records::SeenRecords;
 use super::sums::SoakSums;
 use super::worker::Steps;
 use crate::fault::TrialFault;

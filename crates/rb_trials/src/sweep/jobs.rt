@@ -76,6 +76,7 @@ fn tell_answer<R: Print, T: Display>(rt: &R, answer: &T) {
 
 // Prints how many records failed to be allocated without an entry that explains it, and the final state of each ring.
 fn tell_report<R: Print>(rt: &R, report: &JobsReport<NullSink>) {
+    // `strays` is 0 in each report of `run_jobs`, by its clause `no_strays`.
     let (unlogged, strays) = (report.unlogged, report.strays);
     let _ = println!(rt; "unlogged {unlogged} strays {strays}");
     for ended in &report.rings {

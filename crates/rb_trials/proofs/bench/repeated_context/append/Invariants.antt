@@ -1,5 +1,5 @@
 use Rattle.std.proofs.Common.{◌≡◌, ◌-◌, ◌+◌, length}
-use Rattle.rb_trials.proofs.bench.repeated.append.Given as goal
+use Rattle.rb_trials.proofs.bench.repeated_context.append.Given as goal
 
 -- the counted contexts were appended
 abbrev pub invariant-loop-count : goal.invariant-loop-count

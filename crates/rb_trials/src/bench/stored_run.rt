@@ -1,10 +1,10 @@
 //! The stored run: a small run of each workload, with the same output each time.
 
-use super::interpreting::{loaded, run_rounds};
+use super::interpreter::{loaded, run_rounds};
 use super::jobs::{reserving_program, run_over};
 use super::one_thread::{output_and_take, reserve_and_submit};
 use super::programs::Body;
-use super::repeated::{ContextLen, RepeatedContext};
+use super::repeated_context::{ContextLen, RepeatedContext};
 use super::streams::{Start, stream_over};
 use super::threads::share;
 use crate::fault::TrialFault;

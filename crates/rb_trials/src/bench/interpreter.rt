@@ -4,7 +4,7 @@ ghost use Rattle.std.specs.Prelude.{◌≤◌};
 
 use super::programs::{Body, program_of};
 use crate::fault::TrialFault;
-use crate::loading;
+use crate::verified_programs;
 use rb_interp::{Listed, run};
 use rb_program::decode;
 use rb_verifier::Verified;
@@ -18,7 +18,7 @@ pub(crate) fn load(alloc: Global, bytes: &[u8], rings: u32) -> Result<Verified, 
     requires { rings ≤ 16 }
 {
     match decode(alloc, bytes) {
-        Ok(program) => loading::verified(alloc, program, CONTEXT, rings),
+        Ok(program) => verified_programs::verified(alloc, program, CONTEXT, rings),
         Err(_) => Err(TrialFault::Refused),
     }
 }
