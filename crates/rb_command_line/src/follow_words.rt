@@ -2,7 +2,7 @@
 
 ghost use Rattle.std.specs.Prelude.{◌≤◌};
 
-use crate::request::{Values, decimal};
+use crate::option_values::{Values, decimal};
 use clap::Error;
 use rb_json::LineForm;
 use rb_tape_commands::follow;

@@ -9,6 +9,7 @@ mod command_table;
 mod cost_sizes;
 mod dispatch;
 mod follow_words;
+mod option_values;
 mod options;
 mod progress;
 mod reasons;

@@ -1,7 +1,7 @@
 //! What the words of the command line request of a stream.
 
 use crate::bounds::SIZES;
-use crate::request::{Values, byte_count, large_count};
+use crate::option_values::{Values, byte_count, large_count};
 use clap::Error;
 use rb_segments::SegmentPlan;
 use rb_service::{Full, MetricsFile, NamedRing, RecordForm, SegmentFolder, StreamOptions};
