@@ -74,7 +74,7 @@ fn are_numbered_upward(chapters: &[Chapter]) -> bool
     true
 }
 
-// States that each chapter is legal. It has nothing to do.
+// The fact that each chapter is legal. For the proofs of callers; it does nothing at run time.
 fn facts_of_chapters(chapters: &[Chapter], last: &Chapter)
     ensures legal { AllLegal (chapters.now ++ last.now ∷ []) }
 {
