@@ -3,6 +3,7 @@
 ghost use Rattle.std.specs.Prelude.{◌≡◌, ◌≢◌, IfErr, IfSome, OnOk};
 ghost use Rattle.std.specs.Io.KnownBytes.{Keeps};
 ghost use Rattle.rb_loader.specs.Acceptance.{IsRightFault};
+ghost use Rattle.rb_command_line.specs.Commands.{PrintsCostWith};
 ghost use Rattle.rb_command_line.specs.CostSizes.{PrintsTurnSizes};
 
 use rb_cost::{JobsAtOnce, cost_of, cost_text};
@@ -15,7 +16,7 @@ use std::io::{Read, Write};
 
 /// What the sizes of rings are chosen for.
 #[derive(Clone, Copy)]
-pub(crate) enum SizesFor {
+pub enum SizesFor {
     /// Jobs that may have records in a ring at once.
     Jobs(JobsAtOnce),
     /// This number of workers that wait for room.
@@ -31,7 +32,9 @@ pub(crate) fn cost_with_sizes<R: Read, W: Write>(
     bounds: Bounds,
     form: LineForm,
     sizes: Option<SizesFor>,
-) -> Result<(), ProgramFault> {
+) -> Result<(), ProgramFault>
+    ensures printed { OnOk result (IfSome (R.remaining input.old) (λ text. PrintsCostWith bounds form sizes text (W.contents out.old) (W.contents out.new))) }
+{
     match sizes {
         Some(SizesFor::Turns(workers)) => {
             cost_with_turns(alloc, input, out, bounds, form, workers)

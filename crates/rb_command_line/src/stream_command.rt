@@ -1,6 +1,7 @@
 //! The command `stream`.
 
-ghost use Rattle.std.specs.Prelude.{◌≤◌};
+ghost use Rattle.std.specs.Prelude.{◌≡◌, ◌≤◌};
+ghost use Rattle.rb_command_line.specs.Commands.{Streamed};
 
 use rb_io::write_whole;
 use rb_service::{Host, StreamMetrics, StreamOptions, StreamRefusal, stream};
@@ -24,7 +25,8 @@ pub(crate) fn carry_out_stream<'x, T, R: Read + Send, W: Write + Send, E: Write>
 ) -> u8
 where
     T: Threads + Wait + Sync + Files<File = File> + Host,
-    ensures { result ≤ 1 }
+    ensures status { result ≤ 1 }
+    ensures streamed { result ≡ 0 → Streamed options.now (record { input = R.remaining input.old; out_before = W.contents out.old; out_after = W.contents out.new; err_before = E.contents err.old; err_after = E.contents err.new }) }
 {
     match StreamMetrics::new(rt.host(), alloc, options) {
         Ok(metrics) => measured_stream(rt, alloc, options, &metrics, input, out, err),
@@ -44,7 +46,8 @@ fn measured_stream<'m, 'x: 'm, T, R: Read + Send, W: Write + Send, E: Write>(
 ) -> u8
 where
     T: Threads + Wait + Sync + Files<File = File>,
-    ensures { result ≤ 1 }
+    ensures status { result ≤ 1 }
+    ensures streamed { result ≡ 0 → Streamed options.now (record { input = R.remaining input.old; out_before = W.contents out.old; out_after = W.contents out.new; err_before = E.contents err.old; err_after = E.contents err.new }) }
 {
     let mut counters = Vec::new(alloc);
     let answer = stream(
@@ -67,7 +70,7 @@ where
 
 // Prints the line of a refusal, and returns its status.
 fn print_refusal<E: Write>(refusal: StreamRefusal<'_>, err: &mut E) -> u8
-    ensures { result ≤ 1 }
+    ensures { result ≡ 1 }
 {
     let _ = writeln!(err, "refused {refusal}");
     1
