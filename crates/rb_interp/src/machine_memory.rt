@@ -76,7 +76,7 @@ impl<C, R> MachineMemory<C, R> {
         requires fresh { held_record id self.old.records ≡ None }
         ensures { self.new ≡ record self.old { records = self.old.records ++ (id, owned) ∷ [] } }
     {
-        match self.parts.hold(owned) {
+        match self.parts.records.hold(owned) {
             Ok(slot) => self.entries.push(SlotEntry { id, slot }),
             Err(_) => {
                 known(false);
@@ -95,7 +95,7 @@ impl<C, R> MachineMemory<C, R> {
             known(false);
             unreachable!()
         };
-        let Some(owned) = self.parts.give(entry.slot) else {
+        let Some(owned) = self.parts.records.give(entry.slot) else {
             known(false);
             unreachable!()
         };
