@@ -14,7 +14,7 @@ use Rattle.rb_chapter_ring.specs.declared.record_end.RecordEnd.TheVariants as en
 use Rattle.rb_engine.specs.EngineCalls.{AtRing, EndAnswered, IsStillOut, OutputAnswered, QueryAnswered, ReserveAnswered, record_name}
 use Rattle.rb_engine.specs.RingCalls.{Grants, HasNoRoom, IsNotSent, IsRefused, Outputs}
 use Rattle.rb_engine.specs.RingTurns.{AfterTurn, MayTurn}
-use Rattle.rb_engine.specs.declared.engine_record.EngineRecord.{EngineRecord}
+use Rattle.rb_engine.specs.EngineRecords.{EngineRecord}
 
 -- ---- one of several rings
 

@@ -7,7 +7,7 @@ use Rattle.rb_chapter_ring.specs.declared.record_end.RecordEnd.TheVariants as en
 use Rattle.rb_interp.specs.AnsweredCalls.{AnsweredCall, note_of}
 use Rattle.rb_interp.specs.declared.completed_call.Done.{Done}
 use Rattle.rb_engine.specs.EngineCalls.{CallsHelpers, CallsRings, EndAnswered, Leads, RingsLead, RunRings, has_number}
-use Rattle.rb_engine.specs.declared.engine_record.EngineRecord.{EngineRecord}
+use Rattle.rb_engine.specs.EngineRecords.{EngineRecord}
 use Rattle.rb_engine.specs.inner.Noting.{ended_call, ended_note, with_call}
 
 pub noted : (call : AnsweredCall EngineRecord) (old mid new : RunRings) → mid ≡ record old { rings = mid.rings } → CallsRings call old.rings mid.rings → 0 < old.room → new ≡ with_call mid (note_of call) → CallsHelpers call old new

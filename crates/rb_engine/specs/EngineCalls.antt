@@ -12,7 +12,7 @@ use Rattle.rb_interp.specs.AnsweredCalls.{AnsweredCall, Reserved, Submitted, Dis
 use Rattle.rb_interp.specs.declared.completed_call.Done.{Done}
 use Rattle.rb_engine.specs.RingCalls.{Grants, IsNotSent, IsRefused, Outputs}
 use Rattle.rb_engine.specs.RingTurns.{AfterTurn}
-use Rattle.rb_engine.specs.declared.engine_record.EngineRecord.{EngineRecord}
+use Rattle.rb_engine.specs.EngineRecords.{EngineRecord}
 
 -- ---- one of several rings
 

@@ -5,23 +5,15 @@ use Rattle.rb_interp.specs.AnsweredCalls.{AnsweredCall}
 use Rattle.rb_interp.specs.RunTraces.{RunMatches, TellsLength}
 use Rattle.rb_interp.specs.declared.fault.RunFault.{RunFault}
 use Rattle.rb_interp.specs.declared.fault.RunFault.TheVariants.{Stray}
-use Rattle.rb_lend.specs.Ranges.{in_place_of}
 use Rattle.rb_verifier.specs.Subject.{Subject}
 use Rattle.rb_engine.specs.EngineCalls.{RingsLead}
-use Rattle.rb_engine.specs.declared.engine_record.EngineRecord.{EngineRecord}
+use Rattle.rb_engine.specs.EngineRecords.{EngineRecord, record_bytes, with_record_bytes}
 
 -- its rings, each with its hands, by their numbers; its programs, by theirs; and the length of every run's context
 pub record EngineValue : Type 0 where
   pub rings : List HandRing
   pub programs : List Subject
   pub ctx_len : ℕ
-
-abbrev pub record_bytes : EngineRecord → List ℕ
-record_bytes r = r.reservation.granted.bytes
-
--- the record with these bytes written into it
-abbrev pub with_record_bytes : EngineRecord → List ℕ → EngineRecord
-with_record_bytes r bytes = record r { reservation = record r.reservation { granted = record r.reservation.granted { bytes = in_place_of r.reservation.granted.bytes bytes } } }
 
 -- A program was run over these rings, as the previous calls left them. It made these calls, with these answers. They
 -- are those of the program's semantics, which has this result. No record was handed back, and the calls lead from the

@@ -1,3 +1,4 @@
+pub mod EngineRecords
 pub mod RingTurns
 pub mod RingCalls
 pub mod EngineCalls

@@ -11,8 +11,7 @@ use Rattle.rb_interp.specs.RunTraces.{RunMatches, TellsLength, TraceBalances}
 use Rattle.rb_ledger.specs.Seats.{Shared, WorkerSeat}
 use Rattle.rb_verifier.specs.Subject.{call_count, calls}
 use Rattle.rb_verifier.proofs.Counting.{count-units_of}
-use Rattle.rb_jobs.specs.declared.seat_record.SeatRecord.{SeatRecord}
-use Rattle.rb_jobs.specs.SeatRecords.{reserved_bytes, with_record_bytes}
+use Rattle.rb_jobs.specs.SeatRecords.{SeatRecord, reserved_bytes, with_record_bytes}
 use Rattle.rb_jobs.specs.SeatHelpers.{AtSeats, Leads, SeatsLead}
 use Rattle.rb_jobs.proofs.Leading.{all_may_answer, leads_seats}
 use Rattle.rb_jobs.proofs.Totals.{totals_rise}

@@ -5,7 +5,7 @@ use Rattle.rb_chapter_ring.specs.declared.record_end.RecordEnd.{RecordEnd}
 use Rattle.rb_chapter_ring.specs.declared.record_end.RecordEnd.TheVariants.{Submit, Discard}
 use Rattle.rb_ledger.specs.Seats.{WorkerSeat}
 use Rattle.rb_interp.specs.AnsweredCalls.{note_of}
-use Rattle.rb_jobs.specs.declared.seat_record.SeatRecord.{SeatRecord}
+use Rattle.rb_jobs.specs.SeatRecords.{SeatRecord}
 use Rattle.rb_jobs.specs.SeatCalls.{CallsSeats, RecordAnswered, SeatSubmits, SeatDiscards}
 use Rattle.rb_jobs.specs.inner.RecordEnds.{SeatEnds, ended_call, ended_note}
 use Rattle.rb_jobs.proofs.OneSeat.{at_seat_as}

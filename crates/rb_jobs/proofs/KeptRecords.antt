@@ -9,7 +9,7 @@ use Rattle.rb_chapter_ring.specs.Hands.{Hands, out_record, in_hand}
 use Rattle.rb_chapter_ring.specs.HandGranted.{HandGranted}
 use Rattle.rb_chapter_ring.specs.declared.record_end.RecordEnd.{RecordEnd}
 use Rattle.rb_interp.specs.AnsweredCalls.{Reserved, SentOut, Queried}
-use Rattle.rb_jobs.specs.declared.seat_record.SeatRecord.{SeatRecord}
+use Rattle.rb_jobs.specs.SeatRecords.{SeatRecord}
 use Rattle.rb_jobs.specs.SeatCalls.{AtSeat, IsOutAtSeat, SeatQueries, SeatIsGranted, SeatIsRefused, SeatOutputs, NoHandOrSheet, HasNoSheet, ReserveAnswered, RecordAnswered, OutputAnswered}
 use Rattle.rb_jobs.specs.SeatHelpers.{AtSeats, CallsHelpers}
 use Rattle.rb_jobs.specs.KeptRecords.{IsStillOut, record_name}

@@ -7,7 +7,7 @@ use Rattle.rb_history.specs.RoomRule.{Setup}
 use Rattle.rb_history.specs.declared.entries.Entry.{Entry}
 use Rattle.rb_ledger.specs.Seats.{WorkerSeat}
 use Rattle.rb_interp.specs.AnsweredCalls.{AnsweredCall, Reserved, Submitted, Discarded, SentOut, Queried, note_of, notes_of, MayAnswer}
-use Rattle.rb_jobs.specs.declared.seat_record.SeatRecord.{SeatRecord}
+use Rattle.rb_jobs.specs.SeatRecords.{SeatRecord}
 use Rattle.rb_jobs.specs.SeatCalls.{CallsSeats}
 use Rattle.rb_jobs.specs.SeatHelpers.{AtSeats}
 use Rattle.rb_jobs.specs.SeatLaws.{HelpersLead, SeatsMayAnswer}

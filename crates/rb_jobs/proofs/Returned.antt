@@ -13,8 +13,7 @@ use Rattle.rb_semantics.specs.ProgramRuns.{Returns, run_of, run_resumed, run_fol
 use Rattle.rb_interp.specs.declared.fault.RunFault.{RunFault}
 use Rattle.rb_interp.specs.declared.fault.RunFault.TheVariants.{ContextLength, Stray}
 use Rattle.rb_interp.specs.RunTraces.{traced_answer, held_once_made, IsMade, AreMade, RunMatches, TraceBalances, grants_record, returns_record}
-use Rattle.rb_jobs.specs.declared.seat_record.SeatRecord.{SeatRecord}
-use Rattle.rb_jobs.specs.SeatRecords.{reserved_bytes, with_record_bytes}
+use Rattle.rb_jobs.specs.SeatRecords.{SeatRecord, reserved_bytes, with_record_bytes}
 use Rattle.rb_jobs.specs.SeatHelpers.{makes, submits, discards, call_total}
 use Rattle.rb_jobs.specs.Jobs.{JobsGiveBack}
 

@@ -9,7 +9,7 @@ use Rattle.rb_ledger.specs.Seats.{WorkerSeat, IsSameSeat}
 use Rattle.rb_interp.specs.declared.completed_call.Done.{Done}
 use Rattle.rb_interp.specs.declared.completed_call.Done.TheVariants.{Reserve, Submit, Discard, Output, Query}
 use Rattle.rb_interp.specs.AnsweredCalls.{AnsweredCall, Reserved, Submitted, Discarded, SentOut, Queried, note_of}
-use Rattle.rb_jobs.specs.declared.seat_record.SeatRecord.{SeatRecord}
+use Rattle.rb_jobs.specs.SeatRecords.{SeatRecord}
 use Rattle.rb_jobs.specs.SeatCalls.{AtSeat, CallsSeats, OutputAnswered, RecordAnswered, SeatDiscards, SeatIsRefused, SeatSubmits, NoHandOrSheet, HasNoSheet}
 use Rattle.rb_jobs.specs.SeatHelpers.{makes, submits, discards, fails, made_in, refused_in, submitted_in, discarded_in}
 use Rattle.rb_jobs.specs.SeatLaws.{SeatsRise, TotalsRise}

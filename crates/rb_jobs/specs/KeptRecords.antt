@@ -1,7 +1,7 @@
 -- The records that helpers over seats keep: those that are out in a hand of their seats (own).
 use Rattle.std.specs.Prelude.{◌≡◌, ℕ, slice_get, Some}
 use Rattle.rb_ledger.specs.Seats.{WorkerSeat}
-use Rattle.rb_jobs.specs.declared.seat_record.SeatRecord.{SeatRecord}
+use Rattle.rb_jobs.specs.SeatRecords.{SeatRecord}
 use Rattle.rb_jobs.specs.SeatCalls.{IsOutAtSeat}
 use Rattle.rb_jobs.specs.SeatHelpers.{AtSeats}
 

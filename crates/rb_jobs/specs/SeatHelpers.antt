@@ -8,7 +8,7 @@ use Rattle.rb_interp.specs.ErrorNumbers.{EAGAIN}
 use Rattle.rb_interp.specs.declared.completed_call.Done.{Done}
 use Rattle.rb_interp.specs.declared.completed_call.Done.TheVariants.{Reserve, Submit, Discard, Output}
 use Rattle.rb_interp.specs.AnsweredCalls.{AnsweredCall, note_of}
-use Rattle.rb_jobs.specs.declared.seat_record.SeatRecord.{SeatRecord}
+use Rattle.rb_jobs.specs.SeatRecords.{SeatRecord}
 use Rattle.rb_jobs.specs.SeatCalls.{CallsSeats}
 
 -- the rings, the worker's seat at each of them, the calls so far, the room for more, and the number of nulls for flags 0

@@ -1,7 +1,12 @@
--- The bytes of a record that helpers over seats granted, which are those of its reservation (own).
+-- The records that helpers over seats grant, and their bytes, which are those of their reservations (own).
 use Rattle.std.specs.Prelude.{ℕ, List}
 use Rattle.rb_lend.specs.Ranges.{in_place_of}
-use Rattle.rb_jobs.specs.declared.seat_record.SeatRecord.{SeatRecord}
+use Rattle.rb_chapter_ring.specs.HandGranted.{HandGranted}
+use Rattle.rb_interp.specs.declared.ring_record.RingRecord.{RingRecord}
+
+-- a reservation, with the number of its ring
+abbrev pub SeatRecord : Type 0
+SeatRecord = RingRecord HandGranted
 
 abbrev pub reserved_bytes : SeatRecord → List ℕ
 reserved_bytes owned = owned.reservation.granted.bytes

@@ -20,7 +20,7 @@ use crate::sheets::{copied_sheet, zero_sheet};
 use crate::stock::Stock;
 use rb_chapter_ring::RecordEnd;
 use rb_history::{KNOWN_FLAGS, Notice};
-use rb_interp::{Done, Helpers};
+use rb_interp::{Done, Helpers, RingRecord};
 use rb_shared_ring::{Foreign, Reservation, Seat, SharedRing};
 use std::alloc::{AllocError, Global};
 use std::marker::Model;
@@ -310,7 +310,7 @@ impl<'h, R: Wait, S: Stock, G: Gate> Helpers for SeatHelpers<'h, R, S, G> {
                     granted: true,
                 };
                 self.log(done, unlogged);
-                Some(SeatRecord { ring, reservation })
+                Some(RingRecord { ring, reservation })
             }
             Err(_) => {
                 let done = Done::Reserve {

@@ -19,7 +19,7 @@ use Rattle.rb_interp.specs.ErrorNumbers.{EAGAIN, EINVAL}
 use Rattle.rb_interp.specs.declared.completed_call.Done.{Done}
 use Rattle.rb_interp.specs.declared.completed_call.Done.TheVariants.{Reserve, Submit, Discard, Output, Query}
 use Rattle.rb_interp.specs.AnsweredCalls.{AnsweredCall, Reserved, Submitted, Discarded, SentOut, Queried, note_of}
-use Rattle.rb_jobs.specs.declared.seat_record.SeatRecord.{SeatRecord}
+use Rattle.rb_jobs.specs.SeatRecords.{SeatRecord}
 use Rattle.rb_jobs.specs.SeatCalls.{AtSeat, CallsSeats, OutputAnswered, RecordAnswered, SeatIsGranted, SeatFindsFull, SeatFindsChapterFull, SeatOutputs, SeatQueries, SeatDiscards, SeatIsRefused, SeatSubmits, NoHandOrSheet, HasNoSheet}
 use Rattle.rb_jobs.proofs.Lists.{get_set_here, get_set_other}
 use Rattle.rb_run_cost.specs.JobRequests.{Request, request_of, requests_of, request_at, MayLeave, AddsRequests, CallsLeaveRequests}

@@ -6,7 +6,7 @@ use Rattle.rb_interp.specs.declared.completed_call.Done.{Done}
 use Rattle.rb_interp.specs.declared.completed_call.Done.TheVariants.{Reserve, Output}
 use Rattle.rb_interp.specs.AnsweredCalls.{AnsweredCall, notes_of}
 use Rattle.rb_ledger.specs.Seats.{WorkerSeat}
-use Rattle.rb_jobs.specs.declared.seat_record.SeatRecord.{SeatRecord}
+use Rattle.rb_jobs.specs.SeatRecords.{SeatRecord}
 use Rattle.rb_jobs.specs.SeatHelpers.{SeatsLead, is_no_record}
 
 -- ---- requests in a history

@@ -5,7 +5,7 @@ ghost use Rattle.rb_jobs.specs.SeatHelpers.{IsAt};
 
 use super::expected::same;
 use super::shared::{counts, is_next, len_of, opened, submit_filled};
-use rb_interp::{Done, EAGAIN, EINVAL, Helpers};
+use rb_interp::{Done, EAGAIN, EINVAL, Helpers, RingRecord};
 use rb_jobs::{NoStock, OpenGate, SeatHelpers, SeatRecord, Stock};
 use rb_lend::{Lent, Sheet};
 use rb_shared_ring::{Seat, SharedRing};
@@ -290,11 +290,11 @@ fn a_seat_with_all_hands_out_is_granted_none_and_outputs(rt: HostRuntime) {
 
 // Returns the record with another ring's number.
 fn renumbered(record: SeatRecord, ring: u32) -> SeatRecord {
-    let SeatRecord {
+    let RingRecord {
         ring: _,
         reservation,
     } = record;
-    SeatRecord { ring, reservation }
+    RingRecord { ring, reservation }
 }
 
 #[test]

@@ -16,7 +16,7 @@ use Rattle.rb_world.specs.OpenedWorlds.{IsOpenedWorld, IsStarted, MayOpen}
 use Rattle.rb_world.specs.WorldValue.{WorldValue}
 use Rattle.rb_world.specs.declared.world_setup.RingSetup.{RingSetup}
 use Rattle.rb_world.specs.declared.world_setup.WorkerSetup.{WorkerSetup}
-use Rattle.rb_world.specs.declared.world_record.WorldRecord.{WorldRecord}
+use Rattle.rb_world.specs.WorldRecords.{WorldRecord}
 use Rattle.rb_world.proofs.Openings.{length-opened}
 use Rattle.rb_chapter_ring.specs.Chapters.{Chapter, closing_of}
 use Rattle.rb_chapter_ring.specs.Snapshot.{Snapshot}

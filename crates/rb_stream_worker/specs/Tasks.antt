@@ -4,7 +4,7 @@ use Rattle.std.specs.List.{range_with_len}
 use Rattle.rb_verifier.specs.Subject.{Subject}
 use Rattle.rb_interp.specs.AnsweredCalls.{AnsweredCall}
 use Rattle.rb_ledger.specs.Seats.{WorkerSeat}
-use Rattle.rb_jobs.specs.declared.seat_record.SeatRecord.{SeatRecord}
+use Rattle.rb_jobs.specs.SeatRecords.{SeatRecord}
 use Rattle.rb_jobs.specs.Jobs.{JobRan}
 
 -- a program, by its number in the list of programs, and the context over which it runs

@@ -11,7 +11,7 @@ use Rattle.rb_interp.specs.StoredMemory.{held_record, others}
 use Rattle.rb_world.specs.Worlds.{WorldRing, table_with}
 use Rattle.rb_world.specs.CallsInWorld.{RingSteps, RecordOutcome, BadFlags, NoRoom, Made, WorkerReserves, WorkerOutputs, Unlogged}
 use Rattle.rb_world.proofs.Tables.{eq_cases, placed-here, placed-else}
-use Rattle.rb_world.specs.declared.world_record.WorldRecord.{WorldRecord}
+use Rattle.rb_world.specs.WorldRecords.{WorldRecord}
 use Rattle.rb_world.specs.inner.HeldInHands.{Mark, mark_of, AllHeld, WasHeld}
 use Rattle.rb_world.specs.inner.RingAnswers.{untaken_ring}
 

@@ -21,7 +21,7 @@ use Rattle.rb_interp.proofs.Steady.{steady_ready, steady_waiting, place_for}
 use Rattle.rb_world.specs.Worlds.{RecordPlace, HeldRecords, Running, table_with, WorldRing}
 use Rattle.rb_world.specs.CallsInWorld.{RecordOutcome, BadFlags, NoRoom, Made, WorkerReserves, WorkerOutputs, answer_to_reserve, held_after_reserve, Unlogged}
 use Rattle.rb_world.specs.Turns.{worker_after}
-use Rattle.rb_world.specs.declared.world_record.WorldRecord.{WorldRecord}
+use Rattle.rb_world.specs.WorldRecords.{WorldRecord}
 use Rattle.rb_world.specs.WorldValue.{WholeWorld, place_of, status_of_phase, held_by, worker_of}
 use Rattle.rb_world.specs.inner.WorkerTurn.{GoesOnWith, AnswersReserve, AnswersOutput}
 use Rattle.rb_world.specs.inner.FittingWorlds.{AreOwn, setups_of, AreFor, AreOpenTo, IsFitting}

@@ -9,7 +9,7 @@ use Rattle.rb_world.specs.OpeningWorld.{BeginsVerified, IsFreshRing, IsOpeningWo
 use Rattle.rb_world.proofs.WholeRuns.{opening-reached}
 use Rattle.rb_world.specs.declared.world_setup.RingSetup.{RingSetup}
 use Rattle.rb_world.specs.declared.world_setup.WorkerSetup.{WorkerSetup}
-use Rattle.rb_world.specs.declared.world_record.WorldRecord.{WorldRecord}
+use Rattle.rb_world.specs.WorldRecords.{WorldRecord}
 use Rattle.rb_world.specs.WorldValue.{world_ring, WorldValue, whole_world, worker_of, no_worker, no_ring, no_kept_ring, world_of}
 use Rattle.rb_world.specs.OpenedWorlds.{HaveRings, opened_kept_ring, opened_rings, IsStarted, IsOpenedWorld}
 use Rattle.rb_world.specs.inner.FittingWorlds.{AreFor, setups_of, IsSoundWorld}

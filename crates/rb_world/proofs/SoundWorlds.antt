@@ -9,7 +9,7 @@ use Rattle.rb_world.specs.Worlds.{WorkerState}
 use Rattle.rb_world.specs.OpeningWorld.{IsActor}
 use Rattle.rb_world.specs.EveryInterleaving.{HoldsRecord, IsBusyAsHeld, IsWellRun}
 use Rattle.rb_world.proofs.WholeRuns.{leads-on, reached-well}
-use Rattle.rb_world.specs.declared.world_record.WorldRecord.{WorldRecord}
+use Rattle.rb_world.specs.WorldRecords.{WorldRecord}
 use Rattle.rb_world.specs.declared.turn_done.TurnDone.{TurnDone}
 use Rattle.rb_world.specs.WorldValue.{WholeWorld, place_of, worker_of, shown_world}
 use Rattle.rb_world.specs.TurnsDone.{IsWholeTurn}

@@ -15,7 +15,7 @@ use Rattle.rb_world.specs.Worlds.{RecordPlace, HeldRecords, Running, Finished, W
 use Rattle.rb_world.specs.CallsInWorld.{RecordOutcome, BadFlags, NoRoom, Made, WorkerReserves, WorkerOutputs, answer_to_reserve, held_after_reserve, answer_to_output, Unlogged, granted_at}
 use Rattle.rb_world.specs.Turns.{TurnEvent, Went, Ended, Idle, GivingBack, output_event, worker_after, event_of, GetsAnswer, GivesRecordBack, MakesCall, ExecutesStep, TakesWorkerTurn, WorldStep}
 use Rattle.rb_world.specs.declared.actor.Actor.TheVariants.{Worker}
-use Rattle.rb_world.specs.declared.world_record.WorldRecord.{WorldRecord}
+use Rattle.rb_world.specs.WorldRecords.{WorldRecord}
 use Rattle.rb_world.specs.declared.turn_done.TurnDone.TheVariants as turn
 use Rattle.rb_world.specs.WorldValue.{WholeWorld, place_of, status_of_phase, held_by, worker_of, no_worker, no_ring, shown_world}
 use Rattle.rb_world.specs.TurnsDone.{TellsEvent}

@@ -1,3 +1,4 @@
+pub mod WorldRecords
 pub mod Worlds
 pub mod CallsInWorld
 pub mod Turns

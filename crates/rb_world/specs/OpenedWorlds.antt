@@ -12,7 +12,7 @@ use Rattle.rb_interp.specs.declared.step.Phase.TheVariants.{Ready}
 use Rattle.rb_world.specs.OpeningWorld.{BeginsVerified}
 use Rattle.rb_world.specs.declared.world_setup.RingSetup.{RingSetup}
 use Rattle.rb_world.specs.declared.world_setup.WorkerSetup.{WorkerSetup}
-use Rattle.rb_world.specs.declared.world_record.WorldRecord.{WorldRecord}
+use Rattle.rb_world.specs.WorldRecords.{WorldRecord}
 use Rattle.rb_world.specs.WorldValue.{KeptRing, WorldValue, worker_of}
 
 -- a ring's size and start are within their bounds

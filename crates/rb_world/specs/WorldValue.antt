@@ -17,7 +17,7 @@ use Rattle.rb_interp.specs.declared.step.Phase.TheVariants as phase
 use Rattle.rb_world.specs.declared.actor.Actor.{Actor}
 use Rattle.rb_world.specs.declared.actor.Actor.TheVariants.{Worker, Consumer, Keeper}
 use Rattle.rb_world.specs.Worlds.{RecordPlace, HeldRecords, WorkerStatus, Running, Finished, Halted, Strayed, WorkerState, WorldRing, World}
-use Rattle.rb_world.specs.declared.world_record.WorldRecord.{WorldRecord}
+use Rattle.rb_world.specs.WorldRecords.{WorldRecord}
 
 -- a ring, the chapters that it handed out (oldest first), and what was taken from it
 pub record KeptRing : Type 0 where

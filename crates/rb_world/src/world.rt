@@ -5,11 +5,10 @@ use crate::consumed_ring::ConsumedRing;
 use crate::turn_done::TurnDone;
 use crate::worker_turn::work;
 use crate::world_fault::WorldOpenFault;
-use crate::world_record::WorldRecord;
 use crate::world_setup::{RingSetup, WorkerSetup, check_setups, open_rings, start_machines};
-use rb_chapter_ring::{Chapter, RingState};
+use rb_chapter_ring::{Chapter, Reservation, RingState};
 use rb_history::Taken;
-use rb_interp::{Machine, Phase};
+use rb_interp::{Machine, Phase, RingRecord};
 use std::alloc::Global;
 use std::marker::Model;
 
@@ -25,7 +24,7 @@ use std::marker::Model;
 pub struct World<'p> {
     alloc: Global,
     rings: Vec<ConsumedRing>,
-    machines: Vec<Machine<'p, &'p [u8], WorldRecord>>,
+    machines: Vec<Machine<'p, &'p [u8], RingRecord<Reservation>>>,
 }
 
 impl<'p> Model for World<'p> {

@@ -4,7 +4,7 @@ use Rattle.std.proofs.lemmas.List.{length-take, length-drop}
 use Rattle.rb_lend.specs.Ranges.{in_place_of}
 use Rattle.rb_chapter_ring.specs.Hands.{hand_at, out_record}
 use Rattle.rb_interp.specs.AnsweredCalls.{AnsweredCall}
-use Rattle.rb_engine.specs.declared.engine_record.EngineRecord.{EngineRecord}
+use Rattle.rb_engine.specs.EngineRecords.{EngineRecord, with_record_bytes}
 use Rattle.rb_engine.specs.EngineCalls.{IsStillOut, Leads, RunRings}
 
 -- a sequence of no calls leaves the rings unchanged
@@ -19,10 +19,7 @@ called_on a b c (call ∷ later) more before after = (before.0, before.1, called
 same_length : (old new : List ℕ) → length (in_place_of old new) ≡ length old
 same_length old new = grind (arith, length-append, length-take, length-drop)
 
-abbrev with_bytes : EngineRecord → List ℕ → EngineRecord
-with_bytes r w = record r { reservation = record r.reservation { granted = record r.reservation.granted { bytes = in_place_of r.reservation.granted.bytes w } } }
-
-pub kept_written : (h : RunRings) (r : EngineRecord) (w : List ℕ) → IsStillOut h.rings r → IsStillOut h.rings (with_bytes r w)
+pub kept_written : (h : RunRings) (r : EngineRecord) (w : List ℕ) → IsStillOut h.rings r → IsStillOut h.rings (with_record_bytes r w)
 kept_written h r w kept = record {
   ring = kept.ring;
   ring_is = kept.ring_is;

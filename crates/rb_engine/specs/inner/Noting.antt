@@ -5,7 +5,7 @@ use Rattle.rb_chapter_ring.specs.declared.record_end.RecordEnd.TheVariants as en
 use Rattle.rb_interp.specs.AnsweredCalls.{AnsweredCall, Submitted, Discarded}
 use Rattle.rb_interp.specs.declared.completed_call.Done.{Done}
 use Rattle.rb_interp.specs.declared.completed_call.Done.TheVariants.{Submit, Discard}
-use Rattle.rb_engine.specs.declared.engine_record.EngineRecord.{EngineRecord}
+use Rattle.rb_engine.specs.EngineRecords.{EngineRecord}
 use Rattle.rb_engine.specs.EngineCalls.{RunRings}
 
 -- the trace with one more call, and room for one less

@@ -1,7 +1,7 @@
 -- Sequences of calls with the seats.
 use Rattle.std.proofs.Common.{refl, subst, List, [], ◌∷◌, ◌++◌}
 use Rattle.rb_interp.specs.AnsweredCalls.{AnsweredCall}
-use Rattle.rb_jobs.specs.declared.seat_record.SeatRecord.{SeatRecord}
+use Rattle.rb_jobs.specs.SeatRecords.{SeatRecord}
 use Rattle.rb_jobs.specs.SeatHelpers.{AtSeats, Leads}
 
 -- an empty sequence leaves the helpers unchanged

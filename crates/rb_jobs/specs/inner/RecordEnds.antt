@@ -9,7 +9,7 @@ use Rattle.rb_ledger.specs.RecordEnds.{EndsAt, sent_by_end}
 use Rattle.rb_interp.specs.declared.completed_call.Done.{Done}
 use Rattle.rb_interp.specs.declared.completed_call.Done.TheVariants.{Submit as SubmitNote, Discard as DiscardNote}
 use Rattle.rb_interp.specs.AnsweredCalls.{AnsweredCall, Submitted, Discarded}
-use Rattle.rb_jobs.specs.declared.seat_record.SeatRecord.{SeatRecord}
+use Rattle.rb_jobs.specs.SeatRecords.{SeatRecord}
 use Rattle.rb_jobs.specs.SeatCalls.{IsOutAtSeat, SeatCallsRing, notice_of}
 
 -- what the call does to the seat: it is accepted if and only if the reservation is out there, at one call of the ring;

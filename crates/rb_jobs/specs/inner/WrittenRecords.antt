@@ -3,8 +3,7 @@ use Rattle.std.proofs.Common.{◌≡◌, ℕ, List, Some, length, sym, subst, le
 use Rattle.std.proofs.lemmas.List.{length-take, length-drop}
 use Rattle.rb_lend.specs.Ranges.{in_place_of}
 use Rattle.rb_chapter_ring.specs.Hands.{out_record, in_hand}
-use Rattle.rb_jobs.specs.declared.seat_record.SeatRecord.{SeatRecord}
-use Rattle.rb_jobs.specs.SeatRecords.{with_record_bytes}
+use Rattle.rb_jobs.specs.SeatRecords.{SeatRecord, with_record_bytes}
 use Rattle.rb_jobs.specs.SeatHelpers.{AtSeats}
 use Rattle.rb_jobs.specs.KeptRecords.{IsStillOut}
 

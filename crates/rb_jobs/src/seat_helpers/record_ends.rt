@@ -12,7 +12,7 @@ use crate::seat_record::SeatRecord;
 use crate::stock::Stock;
 use rb_chapter_ring::RecordEnd;
 use rb_history::Notice;
-use rb_interp::Done;
+use rb_interp::{Done, RingRecord};
 use rb_shared_ring::Reservation;
 use std::sync::Wait;
 
@@ -34,7 +34,7 @@ impl<'h, R: Wait, S: Stock, G: Gate> SeatHelpers<'h, R, S, G> {
         ensures called { Leads self.old (ended_call end owned flags (is_ok result) ∷ []) self.new }
         ensures call { CallsHelpers (ended_call end owned flags (is_ok result)) self.old self.new }
     {
-        let SeatRecord { ring, reservation } = owned;
+        let RingRecord { ring, reservation } = owned;
         let answer = self.try_give_back(ring, reservation, end, flags);
         match answer {
             Ok(_) => {
@@ -43,7 +43,7 @@ impl<'h, R: Wait, S: Stock, G: Gate> SeatHelpers<'h, R, S, G> {
             }
             Err(reservation) => {
                 self.log(note_of_end(end, flags, false), false);
-                Err(SeatRecord { ring, reservation })
+                Err(RingRecord { ring, reservation })
             }
         }
     }

@@ -6,7 +6,7 @@ use Rattle.rb_interp.specs.MachineState.{MachineState}
 use Rattle.rb_interp.specs.StoredMemory.{held_record}
 use Rattle.rb_world.specs.Worlds.{WorldRing}
 use Rattle.rb_world.specs.EveryInterleaving.{IsReachedWorld}
-use Rattle.rb_world.specs.declared.world_record.WorldRecord.{WorldRecord}
+use Rattle.rb_world.specs.WorldRecords.{WorldRecord}
 use Rattle.rb_world.specs.WorldValue.{WholeWorld, shown_world}
 
 -- the worker's records were granted to it, by rings that exist

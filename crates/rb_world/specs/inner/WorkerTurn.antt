@@ -14,7 +14,7 @@ use Rattle.rb_world.specs.CallsInWorld.{RecordOutcome, WorkerReserves, WorkerOut
 use Rattle.rb_world.specs.Turns.{TurnEvent, Took, NoMemory, GivingBack, worker_after, taken_by}
 use Rattle.rb_world.specs.declared.turn_done.TurnDone.{TurnDone}
 use Rattle.rb_world.specs.declared.turn_done.TurnDone.TheVariants as turn
-use Rattle.rb_world.specs.declared.world_record.WorldRecord.{WorldRecord}
+use Rattle.rb_world.specs.WorldRecords.{WorldRecord}
 use Rattle.rb_world.specs.WorldValue.{KeptRing, held_by, worker_of}
 use Rattle.rb_world.specs.TurnsDone.{TellsEvent, IsWholeTurn, HandsChapterOut}
 

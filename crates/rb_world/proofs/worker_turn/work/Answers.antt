@@ -11,7 +11,7 @@ use Rattle.rb_interp.specs.declared.step.Step.TheVariants.{Call}
 use Rattle.rb_interp.specs.declared.step.Phase.TheVariants as phase
 use Rattle.rb_world.specs.CallsInWorld.{WorkerSubmits, WorkerDiscards}
 use Rattle.rb_world.specs.Turns.{submit_event, discard_event}
-use Rattle.rb_world.specs.declared.world_record.WorldRecord.{WorldRecord}
+use Rattle.rb_world.specs.WorldRecords.{WorldRecord}
 use Rattle.rb_world.specs.declared.turn_done.TurnDone.TheVariants as turn
 use Rattle.rb_world.specs.RecordReasons.{ReservesOrHasReason, OutputsOrHasReason, hands_at}
 use Rattle.rb_world.specs.WorldValue.{place_of, worker_of, world_ring}

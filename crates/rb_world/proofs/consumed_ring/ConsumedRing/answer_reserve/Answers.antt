@@ -4,7 +4,7 @@ use Rattle.rb_chapter_ring.specs.HandGranted.{HandGranted}
 use Rattle.rb_chapter_ring.specs.Hands.{hand_at}
 use Rattle.rb_semantics.specs.declared.pending_call.PendingCall.TheVariants as asked
 use Rattle.rb_interp.specs.MachineState.{MachineState}
-use Rattle.rb_world.specs.declared.world_record.WorldRecord.{WorldRecord}
+use Rattle.rb_world.specs.WorldRecords.{WorldRecord}
 use Rattle.rb_world.specs.inner.WorkerTurn.{AnswersReserve}
 use Rattle.rb_world.specs.inner.FittingWorlds.{AreOwn}
 use Rattle.rb_chapter_ring.specs.Chapters.{joined}
