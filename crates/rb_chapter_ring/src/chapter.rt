@@ -1,6 +1,6 @@
 //! A chapter as a value.
 
-ghost use Rattle.std.specs.Prelude.{◌≡◌, ◌+◌, ◌-◌, ◌<◌, ◌≤◌, ◌^◌, ◌↔◌, ◌++◌, ◌∷◌, [], IfOk, IfErr, OnOk, IsTrue, List, vec_len, vec_capacity};
+ghost use Rattle.std.specs.Prelude.{◌≡◌, ◌+◌, ◌-◌, ◌<◌, ◌≤◌, ◌^◌, ◌↔◌, [], IfOk, IfErr, OnOk, IsTrue, List};
 ghost use Rattle.rb_history.specs.Span.{span};
 ghost use Rattle.rb_history.specs.declared.entries.Entry.{Entry};
 ghost use Rattle.rb_history.specs.declared.entries.Entry.TheVariants.{Take};
@@ -162,7 +162,7 @@ impl Chapter {
         let serial = self.closing.add_grant(worker, len);
         let later = serial - self.opening.made(worker);
         self.owed += 2;
-        log(&mut self.words, grant_word(worker, later, len));
+        self.words.push_reserved(grant_word(worker, later, len));
         Ok((pos, serial))
     }
 
@@ -179,7 +179,7 @@ impl Chapter {
             return ReserveFault::ChapterFull;
         }
         self.closing.add_refusal(worker);
-        log(&mut self.words, refusal_word(worker, len));
+        self.words.push_reserved(refusal_word(worker, len));
         count_refusal(refused);
         ReserveFault::Full
     }
@@ -193,7 +193,7 @@ impl Chapter {
     {
         let pos = self.closing.add_end(index, end);
         self.owed -= 1;
-        log(&mut self.words, end_word(end, pos));
+        self.words.push_reserved(end_word(end, pos));
     }
 
     /// Logs a take of the record at the front, which was submitted or discarded. Takes constant time and does not
@@ -204,7 +204,7 @@ impl Chapter {
     {
         let pos = self.closing.add_take();
         self.owed -= 1;
-        log(&mut self.words, take_word(pos));
+        self.words.push_reserved(take_word(pos));
     }
 
     /// Reuses memory of records that were taken, if few are left. The chapter's value does not change.
@@ -319,15 +319,6 @@ impl Chapter {
             producer: self.opening.numbers().producer,
         }
     }
-}
-
-// Appends an entry's word. Does not allocate.
-fn log(words: &mut Vec<u64>, word: u64)
-    requires space { vec_len words.old < vec_capacity words.old }
-    ensures logged { words.new.items ≡ words.old.items ++ word ∷ [] }
-    ensures space { vec_capacity words.old ≤ vec_capacity words.new }
-{
-    words.push_reserved(word);
 }
 
 // Returns whether a record of `len` bytes may be granted at the producer position.

@@ -42,8 +42,8 @@ grant_word-requires-clause-later c =
     let room = subst MayGrant (sym c.self.view_is) (c.may_grant.ensures.exact.0 c.if-not-may_grant.false) in
     omega (arith, serial, c.add_grant-serial.ensures.serial, c.made.ensures.made, grants-few c.args.worker old.entries, room, was.room.1)
 
-pub log-requires : goal.log-requires
-log-requires c =
+pub push_reserved-requires : goal.push_reserved-requires
+push_reserved-requires c =
     let was = c.self.invariant in
     let o = c.self.inside.opening.opening in
     let room = subst MayGrant (sym c.self.view_is) (c.may_grant.ensures.exact.0 c.if-not-may_grant.false) in
@@ -59,14 +59,14 @@ invariant_of-self c =
     let fits = subst (λ (x : Chapter). HasRoomFrom x.opening x.entries c.args.len) (sym c.self.view_is) (c.has_room.ensures.exact.0 c.if-not-has_room.false) in
     let room = subst MayGrant (sym c.self.view_is) (c.may_grant.ensures.exact.0 c.if-not-may_grant.false) in
     let serial = c.add_grant-serial.ensures.serial ∙ serial-is was.earlier old was.kept closing was.closing_is w low in
-    let new : Chapter = record { number = c.self.inside.number; room = c.self.inside.room; opening = c.self.inside.opening.opening; entries = entries_in c.self.inside.opening.opening c.log.new.words.items } in
+    let new : Chapter = record { number = c.self.inside.number; room = c.self.inside.room; opening = c.self.inside.opening.opening; entries = entries_in c.self.inside.opening.opening c.push_reserved.new.self.items } in
     let logged : new ≡ with_entry old (Res w (grants_from old.opening w old.entries) c.args.len (producer_from old.opening old.entries)) =
-    ap (λ es. record old { entries = es }) (logs-grant c.self.inside.opening.opening c.self.inside.words.items c.log.new.words.items c.grant_word.result w (c.add_grant-serial.result - c.made.result) c.args.len (grants_from old.opening w old.entries) c.log.ensures.logged c.grant_word.ensures.word (omega (arith, serial, c.made.ensures.made))) in
+    ap (λ es. record old { entries = es }) (logs-grant c.self.inside.opening.opening c.self.inside.words.items c.push_reserved.new.self.items c.grant_word.result w (c.add_grant-serial.result - c.made.result) c.args.len (grants_from old.opening w old.entries) c.push_reserved.ensures.items c.grant_word.ensures.word (omega (arith, serial, c.made.ensures.made))) in
     let runs = granted was.earlier old was.kept closing was.closing_is w c.args.len c.add_grant-serial.new.self.opening c.self.inside.owed new low fits room was.owed_is c.add_grant-serial.ensures.added logged in
     record {
       room = was.room;
       workers = was.workers;
-      space = omega (arith, was.space, c.log.ensures.space);
+      space = omega (arith, was.space, c.push_reserved.ensures.capacity);
       opening_space = was.opening_space;
       closing_space = omega (arith, was.closing_space, c.add_grant-serial.ensures.room);
       passed = omega (
@@ -75,7 +75,7 @@ invariant_of-self c =
         c.add_grant-serial.ensures.passed,
         ap (λ (o : Snapshot). length o.records) c.add_grant-serial.ensures.added,
         length-append closing.records (next_record w c.args.len closing ∷ []),
-        ap length c.log.ensures.logged,
+        ap length c.push_reserved.ensures.items,
         length-append c.self.inside.words.items (c.grant_word.result ∷ []),
       );
       takes = subst IsBehindTakes (sym c.add_grant-serial.ensures.added) was.takes;
@@ -96,7 +96,7 @@ returns-clause-granted c =
     let room = subst MayGrant (sym c.self.view_is) (c.may_grant.ensures.exact.0 c.if-not-may_grant.false) in
     let pos = c.numbers-pos.ensures.producer ∙ ap (λ (o : Snapshot). o.producer) was.closing_is in
     let serial = c.add_grant-serial.ensures.serial ∙ serial-is was.earlier old was.kept closing was.closing_is w low in
-    let new : Chapter = record { number = c.self.inside.number; room = c.self.inside.room; opening = c.self.inside.opening.opening; entries = entries_in c.self.inside.opening.opening c.log.new.words.items } in
+    let new : Chapter = record { number = c.self.inside.number; room = c.self.inside.room; opening = c.self.inside.opening.opening; entries = entries_in c.self.inside.opening.opening c.push_reserved.new.self.items } in
     let logged : new ≡ with_entry old (Res w (grants_from old.opening w old.entries) c.args.len (producer_from old.opening old.entries)) =
-    ap (λ es. record old { entries = es }) (logs-grant c.self.inside.opening.opening c.self.inside.words.items c.log.new.words.items c.grant_word.result w (c.add_grant-serial.result - c.made.result) c.args.len (grants_from old.opening w old.entries) c.log.ensures.logged c.grant_word.ensures.word (omega (arith, serial, c.made.ensures.made))) in
+    ap (λ es. record old { entries = es }) (logs-grant c.self.inside.opening.opening c.self.inside.words.items c.push_reserved.new.self.items c.grant_word.result w (c.add_grant-serial.result - c.made.result) c.args.len (grants_from old.opening w old.entries) c.push_reserved.ensures.items c.grant_word.ensures.word (omega (arith, serial, c.made.ensures.made))) in
     subst (λ x. GrantsRecord x new w c.args.len c.numbers-pos.result.producer c.add_grant-serial.result) c.self.view_is (record { room = fits; chapter_room = room; position = pos; serial = serial; logged = logged })

@@ -43,8 +43,8 @@ overflow_sub-self c =
     let owing = records-owe (closing_of (chapter_shown c.self.inside)).records in
     omega (arith, was.owed_is, owing, busy.0)
 
-pub log-requires : goal.log-requires
-log-requires c =
+pub push_reserved-requires : goal.push_reserved-requires
+push_reserved-requires c =
     let was = c.self.invariant in
     let o = c.self.inside.opening.opening in
     let busy = subst (λ x. IsBusyNow x c.args.index) (sym c.self.view_is) c.requires.busy in
@@ -58,13 +58,13 @@ invariant_of-self c =
     let closing = c.self.inside.closing.opening in
     let busy = subst (λ x. IsBusyNow x c.args.index) (sym c.self.view_is) c.requires.busy in
     let pos = c.add_end-pos.ensures.position ∙ ap (λ (s : Shown). s.pos) (same-now was.earlier old was.kept closing was.closing_is c.args.index busy) in
-    let new : Chapter = record { number = c.self.inside.number; room = c.self.inside.room; opening = c.self.inside.opening.opening; entries = entries_in c.self.inside.opening.opening c.log.new.words.items } in
-    let logged : new ≡ with_entry old (entry_of_end c.args.end (record_now old c.args.index).pos) = ap (λ es. record old { entries = es }) (logs-in c.self.inside.opening.opening c.self.inside.words.items c.log.new.words.items c.end_word.result (entry_of_end c.args.end c.add_end-pos.result) c.log.ensures.logged c.end_word.ensures.word) ∙ ap (λ q. with_entry old (entry_of_end c.args.end q)) pos in
+    let new : Chapter = record { number = c.self.inside.number; room = c.self.inside.room; opening = c.self.inside.opening.opening; entries = entries_in c.self.inside.opening.opening c.push_reserved.new.self.items } in
+    let logged : new ≡ with_entry old (entry_of_end c.args.end (record_now old c.args.index).pos) = ap (λ es. record old { entries = es }) (logs-in c.self.inside.opening.opening c.self.inside.words.items c.push_reserved.new.self.items c.end_word.result (entry_of_end c.args.end c.add_end-pos.result) c.push_reserved.ensures.items c.end_word.ensures.word) ∙ ap (λ q. with_entry old (entry_of_end c.args.end q)) pos in
     let runs = ended was.earlier old was.kept closing was.closing_is c.args.index busy c.args.end c.add_end-pos.new.self.opening c.self.inside.owed new was.owed_is c.add_end-pos.ensures.added logged in
     record {
       room = was.room;
       workers = was.workers;
-      space = omega (arith, was.space, c.log.ensures.space);
+      space = omega (arith, was.space, c.push_reserved.ensures.capacity);
       opening_space = was.opening_space;
       closing_space = omega (arith, was.closing_space, c.add_end-pos.ensures.room);
       passed = omega (
@@ -76,7 +76,7 @@ invariant_of-self c =
         c.add_end-pos.ensures.passed,
         ap (λ (o : Snapshot). length o.records) c.add_end-pos.ensures.added,
         length-set closing.records c.args.index (record (record_in closing c.args.index) { status = status_of_end c.args.end }),
-        ap length c.log.ensures.logged,
+        ap length c.push_reserved.ensures.items,
         length-append c.self.inside.words.items (c.end_word.result ∷ []),
       );
       takes = subst IsBehindTakes (sym c.add_end-pos.ensures.added) was.takes;
@@ -93,5 +93,5 @@ returns c =
     let closing = c.self.inside.closing.opening in
     let busy = subst (λ x. IsBusyNow x c.args.index) (sym c.self.view_is) c.requires.busy in
     let pos = c.add_end-pos.ensures.position ∙ ap (λ (s : Shown). s.pos) (same-now was.earlier old was.kept closing was.closing_is c.args.index busy) in
-    let logged = ap (λ es. record old { entries = es }) (logs-in c.self.inside.opening.opening c.self.inside.words.items c.log.new.words.items c.end_word.result (entry_of_end c.args.end c.add_end-pos.result) c.log.ensures.logged c.end_word.ensures.word) ∙ ap (λ q. with_entry old (entry_of_end c.args.end q)) pos in
+    let logged = ap (λ es. record old { entries = es }) (logs-in c.self.inside.opening.opening c.self.inside.words.items c.push_reserved.new.self.items c.end_word.result (entry_of_end c.args.end c.add_end-pos.result) c.push_reserved.ensures.items c.end_word.ensures.word) ∙ ap (λ q. with_entry old (entry_of_end c.args.end q)) pos in
     record { logged = logged ∙ ap (λ (x : Chapter). with_entry x (entry_of_end c.args.end (record_now x c.args.index).pos)) c.self.view_is }

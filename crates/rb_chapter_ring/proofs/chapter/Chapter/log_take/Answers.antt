@@ -43,8 +43,8 @@ overflow_sub-self c =
     let owing = records-owe (closing_of (chapter_shown c.self.inside)).records in
     omega (arith, was.owed_is, owing, front.0)
 
-pub log-requires : goal.log-requires
-log-requires c =
+pub push_reserved-requires : goal.push_reserved-requires
+push_reserved-requires c =
     let was = c.self.invariant in
     let o = c.self.inside.opening.opening in
     let front = subst HasSettledFront (sym c.self.view_is) c.requires.front in
@@ -58,13 +58,13 @@ invariant_of-self c =
     let closing = c.self.inside.closing.opening in
     let front = subst HasSettledFront (sym c.self.view_is) c.requires.front in
     let pos = c.add_take-pos.ensures.position ∙ ap (λ (o : Snapshot). o.consumer) was.closing_is in
-    let new : Chapter = record { number = c.self.inside.number; room = c.self.inside.room; opening = c.self.inside.opening.opening; entries = entries_in c.self.inside.opening.opening c.log.new.words.items } in
-    let logged : new ≡ with_entry old (Take (consumer_from old.opening old.entries)) = ap (λ es. record old { entries = es }) (logs-in c.self.inside.opening.opening c.self.inside.words.items c.log.new.words.items c.take_word.result (Take c.add_take-pos.result) c.log.ensures.logged c.take_word.ensures.word) ∙ ap (λ q. with_entry old (Take q)) pos in
+    let new : Chapter = record { number = c.self.inside.number; room = c.self.inside.room; opening = c.self.inside.opening.opening; entries = entries_in c.self.inside.opening.opening c.push_reserved.new.self.items } in
+    let logged : new ≡ with_entry old (Take (consumer_from old.opening old.entries)) = ap (λ es. record old { entries = es }) (logs-in c.self.inside.opening.opening c.self.inside.words.items c.push_reserved.new.self.items c.take_word.result (Take c.add_take-pos.result) c.push_reserved.ensures.items c.take_word.ensures.word) ∙ ap (λ q. with_entry old (Take q)) pos in
     let runs = taken was.earlier old was.kept closing was.closing_is front c.add_take-pos.new.self.opening c.self.inside.owed new was.owed_is c.add_take-pos.ensures.taken logged in
     record {
       room = was.room;
       workers = was.workers;
-      space = omega (arith, was.space, c.log.ensures.space);
+      space = omega (arith, was.space, c.push_reserved.ensures.capacity);
       opening_space = was.opening_space;
       closing_space = omega (arith, was.closing_space, c.add_take-pos.ensures.room);
       passed = omega (
@@ -76,7 +76,7 @@ invariant_of-self c =
         c.add_take-pos.ensures.passed,
         ap (λ (o : Snapshot). length o.records) c.add_take-pos.ensures.taken,
         one-less closing.records (some-there was.earlier old was.kept closing was.closing_is front),
-        ap length c.log.ensures.logged,
+        ap length c.push_reserved.ensures.items,
         length-append c.self.inside.words.items (c.take_word.result ∷ []),
       );
       takes = subst IsBehindTakes (sym c.add_take-pos.ensures.taken) (takes-behind closing was.takes);
@@ -91,5 +91,5 @@ returns c =
     let was = c.self.invariant in
     let old = chapter_shown c.self.inside in
     let pos = c.add_take-pos.ensures.position ∙ ap (λ (o : Snapshot). o.consumer) was.closing_is in
-    let logged = ap (λ es. record old { entries = es }) (logs-in c.self.inside.opening.opening c.self.inside.words.items c.log.new.words.items c.take_word.result (Take c.add_take-pos.result) c.log.ensures.logged c.take_word.ensures.word) ∙ ap (λ q. with_entry old (Take q)) pos in
+    let logged = ap (λ es. record old { entries = es }) (logs-in c.self.inside.opening.opening c.self.inside.words.items c.push_reserved.new.self.items c.take_word.result (Take c.add_take-pos.result) c.push_reserved.ensures.items c.take_word.ensures.word) ∙ ap (λ q. with_entry old (Take q)) pos in
     record { logged = logged ∙ ap (λ (x : Chapter). with_entry x (Take (consumer_from x.opening x.entries))) c.self.view_is }

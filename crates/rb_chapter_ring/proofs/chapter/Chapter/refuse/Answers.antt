@@ -23,8 +23,8 @@ refusal_word-requires c =
     let low = subst (λ (x : Chapter). c.args.worker < x.opening.setup.workers) (sym c.self.view_is) c.requires.worker in
     record { worker = omega (arith, low, c.self.invariant.workers.1) }
 
-pub log-requires : goal.log-requires
-log-requires c =
+pub push_reserved-requires : goal.push_reserved-requires
+push_reserved-requires c =
     let was = c.self.invariant in
     let o = c.self.inside.opening.opening in
     let room = subst (λ x. MayRefuse x c.args.worker) (sym c.self.view_is) (c.may_refuse.ensures.exact.0 c.if-not-may_refuse.false) in
@@ -37,16 +37,16 @@ invariant_of-self c =
     let low = subst (λ (x : Chapter). c.args.worker < x.opening.setup.workers) (sym c.self.view_is) c.requires.worker in
     let none = subst (λ (x : Chapter). ¬ HasRoomFrom x.opening x.entries c.args.len) (sym c.self.view_is) c.requires.no_room in
     let room = subst (λ x. MayRefuse x c.args.worker) (sym c.self.view_is) (c.may_refuse.ensures.exact.0 c.if-not-may_refuse.false) in
-    let new : Chapter = record { number = c.self.inside.number; room = c.self.inside.room; opening = c.self.inside.opening.opening; entries = entries_in c.self.inside.opening.opening c.log.new.words.items } in
-    let logged : new ≡ with_entry old (Full c.args.worker c.args.len) = ap (λ es. record old { entries = es }) (logs-in c.self.inside.opening.opening c.self.inside.words.items c.log.new.words.items c.refusal_word.result (Full c.args.worker c.args.len) c.log.ensures.logged c.refusal_word.ensures.word) in
+    let new : Chapter = record { number = c.self.inside.number; room = c.self.inside.room; opening = c.self.inside.opening.opening; entries = entries_in c.self.inside.opening.opening c.push_reserved.new.self.items } in
+    let logged : new ≡ with_entry old (Full c.args.worker c.args.len) = ap (λ es. record old { entries = es }) (logs-in c.self.inside.opening.opening c.self.inside.words.items c.push_reserved.new.self.items c.refusal_word.result (Full c.args.worker c.args.len) c.push_reserved.ensures.items c.refusal_word.ensures.word) in
     let runs = refused was.earlier old was.kept c.self.inside.closing.opening was.closing_is c.args.worker c.args.len c.add_refusal.new.self.opening c.self.inside.owed new low none room was.owed_is c.add_refusal.ensures.added logged in
     record {
       room = was.room;
       workers = was.workers;
-      space = omega (arith, was.space, c.log.ensures.space);
+      space = omega (arith, was.space, c.push_reserved.ensures.capacity);
       opening_space = was.opening_space;
       closing_space = omega (arith, was.closing_space, c.add_refusal.ensures.room);
-      passed = omega (arith, was.passed, c.add_refusal.ensures.passed, ap (λ (o : Snapshot). length o.records) c.add_refusal.ensures.added, ap length c.log.ensures.logged, length-append c.self.inside.words.items (c.refusal_word.result ∷ []));
+      passed = omega (arith, was.passed, c.add_refusal.ensures.passed, ap (λ (o : Snapshot). length o.records) c.add_refusal.ensures.added, ap length c.push_reserved.ensures.items, length-append c.self.inside.words.items (c.refusal_word.result ∷ []));
       takes = subst IsBehindTakes (sym c.add_refusal.ensures.added) was.takes;
       closing_is = runs.closing_is;
       owed_is = runs.owed_is;
@@ -59,6 +59,6 @@ returns c =
     let old = chapter_shown c.self.inside in
     let none = subst (λ (x : Chapter). ¬ HasRoomFrom x.opening x.entries c.args.len) (sym c.self.view_is) c.requires.no_room in
     let room = subst (λ x. MayRefuse x c.args.worker) (sym c.self.view_is) (c.may_refuse.ensures.exact.0 c.if-not-may_refuse.false) in
-    let new : Chapter = record { number = c.self.inside.number; room = c.self.inside.room; opening = c.self.inside.opening.opening; entries = entries_in c.self.inside.opening.opening c.log.new.words.items } in
-    let logged : new ≡ with_entry old (Full c.args.worker c.args.len) = ap (λ es. record old { entries = es }) (logs-in c.self.inside.opening.opening c.self.inside.words.items c.log.new.words.items c.refusal_word.result (Full c.args.worker c.args.len) c.log.ensures.logged c.refusal_word.ensures.word) in
+    let new : Chapter = record { number = c.self.inside.number; room = c.self.inside.room; opening = c.self.inside.opening.opening; entries = entries_in c.self.inside.opening.opening c.push_reserved.new.self.items } in
+    let logged : new ≡ with_entry old (Full c.args.worker c.args.len) = ap (λ es. record old { entries = es }) (logs-in c.self.inside.opening.opening c.self.inside.words.items c.push_reserved.new.self.items c.refusal_word.result (Full c.args.worker c.args.len) c.push_reserved.ensures.items c.refusal_word.ensures.word) in
     record { counted = c.count_refusal.ensures.counted; refused = subst (λ x. LogsRefusal x new c.args.worker c.args.len) c.self.view_is (record { no_room = none; chapter_room = room; logged = logged }) }
