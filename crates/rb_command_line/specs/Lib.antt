@@ -1,1 +1,3 @@
+pub mod Commands
 pub mod CostSizes
+pub mod inner

@@ -1,8 +1,9 @@
 //! The command `cost`, which also chooses sizes of rings.
 
-ghost use Rattle.std.specs.Prelude.{◌≡◌, ◌≢◌, IfErr, IfSome, OnOk};
+ghost use Rattle.std.specs.Prelude.{◌≡◌, ◌≢◌, Some, IfErr, IfSome, OnOk};
 ghost use Rattle.std.specs.Io.KnownBytes.{Keeps};
 ghost use Rattle.rb_loader.specs.Acceptance.{IsRightFault};
+ghost use Rattle.rb_command_line.specs.Commands.{PrintsCostWith};
 ghost use Rattle.rb_command_line.specs.CostSizes.{PrintsTurnSizes};
 
 use rb_cost::{JobsAtOnce, cost_of, cost_text};
@@ -15,7 +16,7 @@ use std::io::{Read, Write};
 
 /// What the sizes of rings are chosen for.
 #[derive(Clone, Copy)]
-pub(crate) enum SizesFor {
+pub enum SizesFor {
     /// Jobs that may have records in a ring at once.
     Jobs(JobsAtOnce),
     /// This number of workers that wait for room.
@@ -31,13 +32,29 @@ pub(crate) fn cost_with_sizes<R: Read, W: Write>(
     bounds: Bounds,
     form: LineForm,
     sizes: Option<SizesFor>,
-) -> Result<(), ProgramFault> {
+) -> Result<(), ProgramFault>
+    ensures printed { OnOk result (IfSome (R.remaining input.old) (λ text. PrintsCostWith bounds form sizes text (W.contents out.old) (W.contents out.new))) }
+{
     match sizes {
-        Some(SizesFor::Turns(workers)) => {
-            cost_with_turns(alloc, input, out, bounds, form, workers)
-        }
-        Some(SizesFor::Jobs(jobs)) => cost(alloc, input, out, bounds, form, Some(jobs)),
         None => cost(alloc, input, out, bounds, form, None),
+        Some(sizes) => cost_for(alloc, input, out, bounds, form, sizes),
+    }
+}
+
+// Prints the most that the program can cost and the sizes of rings.
+fn cost_for<R: Read, W: Write>(
+    alloc: Global,
+    input: &mut R,
+    out: &mut W,
+    bounds: Bounds,
+    form: LineForm,
+    sizes: SizesFor,
+) -> Result<(), ProgramFault>
+    ensures printed { OnOk result (IfSome (R.remaining input.old) (λ text. PrintsCostWith bounds form (Some sizes) text (W.contents out.old) (W.contents out.new))) }
+{
+    match sizes {
+        SizesFor::Jobs(jobs) => cost(alloc, input, out, bounds, form, Some(jobs)),
+        SizesFor::Turns(workers) => cost_with_turns(alloc, input, out, bounds, form, workers),
     }
 }
 

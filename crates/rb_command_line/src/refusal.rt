@@ -26,6 +26,36 @@ pub(crate) enum CommandRefusal {
     Sim(SimFault),
 }
 
+impl From<FeedFault> for CommandRefusal {
+    fn from(fault: FeedFault) -> CommandRefusal {
+        CommandRefusal::Feed(fault)
+    }
+}
+
+impl From<TapeRefusal> for CommandRefusal {
+    fn from(refusal: TapeRefusal) -> CommandRefusal {
+        CommandRefusal::Tape(refusal)
+    }
+}
+
+impl From<ProgramFault> for CommandRefusal {
+    fn from(fault: ProgramFault) -> CommandRefusal {
+        CommandRefusal::Program(fault)
+    }
+}
+
+impl From<JobsFault> for CommandRefusal {
+    fn from(fault: JobsFault) -> CommandRefusal {
+        CommandRefusal::Jobs(fault)
+    }
+}
+
+impl From<SimFault> for CommandRefusal {
+    fn from(fault: SimFault) -> CommandRefusal {
+        CommandRefusal::Sim(fault)
+    }
+}
+
 impl Display for CommandRefusal {
     fn fmt<W: fmt::Write>(&self, f: &mut Formatter<W>) -> fmt::Result {
         match self {

@@ -1,7 +1,7 @@
 //! What the words of the command line request.
 
 use crate::cost_sizes::SizesFor;
-use crate::follow_words::FollowRequest;
+use crate::follow_request::FollowRequest;
 use crate::option_values::Values;
 use crate::options::program;
 use crate::terminals::Terminals;
@@ -17,7 +17,7 @@ use std::convert::AsStr;
 
 /// A command with its options.
 #[derive(Clone, Copy)]
-pub(crate) enum Subcommand<'a> {
+pub enum Subcommand<'a> {
     /// Writes the tape of payloads, of a ring with this size and first position. Failed writes are retried this often
     /// in all, and the end of the tape is printed in this form.
     Feed {
@@ -68,6 +68,9 @@ pub(crate) enum Subcommand<'a> {
 }
 
 impl Subcommand<'_> {
+    ghost use Rattle.std.specs.Prelude.{◌≡◌};
+    ghost use Rattle.rb_command_line.specs.inner.Endings.{form_of};
+
     /// Returns the size that is requested, or 0 if none is.
     pub(crate) fn size(&self) -> u64 {
         match *self {
@@ -125,7 +128,9 @@ impl Subcommand<'_> {
     }
 
     /// Returns the form of the output.
-    pub(crate) fn form(&self) -> LineForm {
+    pub(crate) fn form(&self) -> LineForm
+        ensures form { result ≡ form_of self.now }
+    {
         match *self {
             Subcommand::Feed { form, .. }
             | Subcommand::Tape { form, .. }
@@ -146,7 +151,7 @@ impl Subcommand<'_> {
 
 /// What the command line requests.
 #[derive(Clone, Copy)]
-pub(crate) struct CommandLine<'a> {
+pub struct CommandLine<'a> {
     /// The command.
     pub request: Subcommand<'a>,
     /// The file that is read instead of standard input.
@@ -159,7 +164,7 @@ pub(crate) struct CommandLine<'a> {
 
 /// Any command.
 #[derive(Drop)]
-pub(crate) enum ParsedCommand<'a> {
+pub enum ParsedCommand<'a> {
     /// A command other than `stream` and `follow`.
     Command(CommandLine<'a>),
     /// A stream.
@@ -170,7 +175,9 @@ pub(crate) enum ParsedCommand<'a> {
 
 /// Returns the command that these words name, which follow the program's name on the command line. An error is help or
 /// the version that was requested, wrong usage, or a failed allocation.
-pub(crate) fn parse<'a, S: AsStr>(
+///
+/// The tables of commands and options determine which command that is. It is tested, and no contract describes it.
+pub fn parse<'a, S: AsStr>(
     alloc: Global,
     words: &'a [S],
     terminals: Terminals,

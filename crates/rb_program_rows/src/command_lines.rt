@@ -1,7 +1,7 @@
 //! Command lines of `rbhost`, with inputs in memory.
 
 use crate::bytes::{bytes_of, tell_escaped, unescaped};
-use rb_command_line::{Host, Terminals, command};
+use rb_command_line::{Host, NotedReader, NotedWriter, Terminals, command};
 use std::alloc::{AllocError, Global};
 use std::fmt::Write;
 use std::fs::File;
@@ -118,8 +118,8 @@ fn ended<R: Threads + Wait + Sync + Files<File = File> + Clock + Eprint + Host>(
         alloc,
         words,
         Terminals::default(),
-        &mut reader,
-        &mut printed,
+        &mut NotedReader::new(&mut reader),
+        &mut NotedWriter::new(&mut printed),
         &mut told,
     );
     Ending {

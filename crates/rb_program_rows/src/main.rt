@@ -22,9 +22,9 @@ mod numbers;
 mod row;
 mod runs;
 mod shapes;
+mod state_changes;
 mod states;
 mod steps;
-mod told_states;
 mod verified;
 mod witness;
 

@@ -1,8 +1,8 @@
 //! Single steps of the verifier, the order of its states, and what two of them have in common.
 
 use crate::decoded::insn_of;
+use crate::state_changes::tell_changes;
 use crate::states::{are_earlier, state_of};
-use crate::told_states::tell_changes;
 use rb_insn::Insn;
 use rb_verifier::{AbsState, Effect, Limits, StepFault, below, join, step, step_in_place};
 use std::alloc::{AllocError, Global};

@@ -17,7 +17,8 @@
 //!
 //! The contracts are those of the public calls of the crates below:
 //!
-//! - `command` (rb_command_line): which exit statuses there are.
+//! - `command` and `execute` (rb_command_line): which exit statuses there are, and what a command has done that ends with
+//!   status 0.
 //! - `feed` and `tape` (rb_tape_commands): what was read and written, by their results.
 //! - `explain` and `cost` (rb_loader): what was explained, and that a cost is exact.
 //! - `check` and `run` (rb_run_commands): that what is printed is what the rings handed out.
@@ -26,7 +27,7 @@
 //! - `sim` (rb_script): that its lines are those of a world's turns.
 #![tactic(auto)]
 
-use rb_command_line::{Terminals, command};
+use rb_command_line::{NotedReader, NotedWriter, Terminals, command};
 use std::io::IsTerminal;
 use std::process::ExitCode;
 use std::{env, io};
@@ -36,7 +37,7 @@ fn main(rt: HostRuntime) -> ExitCode {
         Ok(words) => words,
         Err(error) => return print_unreadable(&rt, &error),
     };
-    let (mut input, mut out, mut err) = (rt.stdin(), rt.stdout(), rt.stderr());
+    let (out, mut err) = (rt.stdout(), rt.stderr());
     let terminals = Terminals {
         out: out.is_terminal(),
         err: err.is_terminal(),
@@ -46,8 +47,8 @@ fn main(rt: HostRuntime) -> ExitCode {
         rt.alloc(),
         words.as_slice(),
         terminals,
-        &mut input,
-        &mut out,
+        &mut NotedReader::new(rt.stdin()),
+        &mut NotedWriter::new(out),
         &mut err,
     ))
 }

@@ -4,6 +4,7 @@ use crate::endings::ending;
 use crate::expected::same_of;
 use crate::fakes::{FakeReader, FakeWriter, Trouble};
 use rb_command_line::{Host, Terminals, command};
+use rb_io::{NotedReader, NotedWriter};
 use std::alloc::Global;
 use std::fs::File;
 use std::io::{Eprint, ErrorKind};
@@ -33,8 +34,8 @@ fn told_of_trouble<T: Abort + Threads + Wait + Sync + Files<File = File> + Clock
         alloc,
         &["check"],
         Terminals::default(),
-        &mut reader,
-        &mut writer,
+        &mut NotedReader::new(&mut reader),
+        &mut NotedWriter::new(&mut writer),
         &mut told,
     );
     ending(rt, alloc, status, &told, &writer.taken)

@@ -4,6 +4,7 @@ use crate::endings::{ended, ending};
 use crate::expected::{same, same_of};
 use crate::fakes::{FakeReader, FakeWriter, Trouble};
 use rb_command_line::{Host, Terminals, command};
+use rb_io::{NotedReader, NotedWriter};
 use std::alloc::Global;
 use std::fs::File;
 use std::io::{Eprint, ErrorKind};
@@ -30,8 +31,8 @@ fn is_help<T: Threads + Wait + Sync + Files<File = File> + Clock + Eprint + Host
         alloc,
         words,
         Terminals::default(),
-        &mut reader,
-        &mut text,
+        &mut NotedReader::new(&mut reader),
+        &mut NotedWriter::new(&mut text),
         &mut told,
     );
     let is_one_text = text.as_slice().ends_with(b"\n") && !text.as_slice().ends_with(b"\n\n");
@@ -65,8 +66,8 @@ fn fed_with<T: Abort + Threads + Wait + Sync + Files<File = File> + Clock + Epri
         alloc,
         &words,
         Terminals::default(),
-        &mut reader,
-        &mut tape,
+        &mut NotedReader::new(&mut reader),
+        &mut NotedWriter::new(&mut tape),
         &mut told,
     );
     (
@@ -135,8 +136,8 @@ fn fed_with_reason<T: Abort + Threads + Wait + Sync + Files<File = File> + Clock
         alloc,
         &words,
         Terminals::default(),
-        &mut reader,
-        &mut tape,
+        &mut NotedReader::new(&mut reader),
+        &mut NotedWriter::new(&mut tape),
         &mut told,
     );
     ending(rt, alloc, status, &told, &[])

@@ -2,6 +2,7 @@
 
 use crate::fakes::FakeReader;
 use rb_command_line::{Host, Terminals, command};
+use rb_io::{NotedReader, NotedWriter};
 use std::alloc::Global;
 use std::fs::File;
 use std::io::Eprint;
@@ -32,8 +33,8 @@ pub(crate) fn ended_over<
         alloc,
         words,
         Terminals::default(),
-        &mut reader,
-        &mut printed,
+        &mut NotedReader::new(&mut reader),
+        &mut NotedWriter::new(&mut printed),
         &mut told,
     );
     ending(rt, alloc, status, &told, &printed)

@@ -4,7 +4,7 @@ use crate::endings::ending;
 use crate::expected::same_of;
 use crate::fakes::{FakeReader, FakeWriter, OneFailure, Trouble};
 use rb_command_line::{Host, Terminals, command};
-use rb_io::ReadAhead;
+use rb_io::{NotedReader, NotedWriter, ReadAhead};
 use rb_tape_commands::{FeedFault, feed};
 use std::alloc::Global;
 use std::fs::File;
@@ -90,8 +90,8 @@ fn told<T: Abort + Threads + Wait + Sync + Files<File = File> + Clock + Eprint +
         alloc,
         &words,
         Terminals::default(),
-        &mut reader,
-        &mut writer,
+        &mut NotedReader::new(&mut reader),
+        &mut NotedWriter::new(&mut writer),
         &mut told,
     );
     (ending(rt, alloc, status, &told, &[]), writer.taken)

@@ -3,6 +3,7 @@
 use crate::endings::{ended, ending};
 use crate::expected::same_of;
 use rb_command_line::{Host, Terminals, command};
+use rb_io::{NotedReader, NotedWriter};
 use std::alloc::Global;
 use std::fs;
 use std::fs::File;
@@ -46,8 +47,8 @@ fn ended_at<T: Abort + Threads + Wait + Sync + Files<File = File> + Clock + Epri
         alloc,
         words,
         terminals,
-        &mut reader,
-        &mut printed,
+        &mut NotedReader::new(&mut reader),
+        &mut NotedWriter::new(&mut printed),
         &mut told,
     );
     ending(rt, alloc, status, &told, &printed)

@@ -13,7 +13,7 @@ use std::time::Clock;
 
 /// What is requested of `follow`.
 #[derive(Clone, Copy)]
-pub(crate) struct FollowRequest<'a> {
+pub struct FollowRequest<'a> {
     /// The directory of the segments.
     pub folder: &'a str,
     /// The name of the ring.

@@ -1,0 +1,3 @@
+mod CommandEndings
+mod ParsedCommands
+mod SingleCommands
