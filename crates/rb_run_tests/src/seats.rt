@@ -3,10 +3,11 @@
 ghost use Rattle.std.specs.Prelude.{◌≡◌, ◌+◌, ◌≤◌, ◌<◌, true};
 ghost use Rattle.rb_jobs.specs.SeatHelpers.{IsAt};
 
+use rb_chapter_ring::RingRecord;
 use super::expected::same;
 use super::shared::{counts, is_next, len_of, opened, submit_filled};
 use rb_interp::{Done, EAGAIN, EINVAL, Helpers};
-use rb_jobs::{NoStock, OpenGate, SeatHelpers, SeatRecord, Stock};
+use rb_jobs::{NoStock, OpenGate, SeatHelpers, Stock};
 use rb_lend::{Lent, Sheet};
 use rb_shared_ring::{Seat, SharedRing};
 use std::alloc::Global;
@@ -289,12 +290,12 @@ fn a_seat_with_all_hands_out_is_granted_none_and_outputs(rt: HostRuntime) {
 }
 
 // Returns the record with another ring's number.
-fn renumbered(record: SeatRecord, ring: u32) -> SeatRecord {
-    let SeatRecord {
+fn renumbered(record: RingRecord, ring: u32) -> RingRecord {
+    let RingRecord {
         ring: _,
         reservation,
     } = record;
-    SeatRecord { ring, reservation }
+    RingRecord { ring, reservation }
 }
 
 #[test]

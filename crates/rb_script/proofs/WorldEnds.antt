@@ -16,7 +16,7 @@ use Rattle.rb_world.specs.OpenedWorlds.{IsOpenedWorld, IsStarted, MayOpen}
 use Rattle.rb_world.specs.WorldValue.{WorldValue}
 use Rattle.rb_world.specs.declared.world_setup.RingSetup.{RingSetup}
 use Rattle.rb_world.specs.declared.world_setup.WorkerSetup.{WorkerSetup}
-use Rattle.rb_world.specs.declared.world_record.WorldRecord.{WorldRecord}
+use Rattle.rb_chapter_ring.specs.declared.ring_record.RingRecord.{RingRecord}
 use Rattle.rb_world.proofs.Openings.{length-opened}
 use Rattle.rb_chapter_ring.specs.Chapters.{Chapter, closing_of}
 use Rattle.rb_chapter_ring.specs.Snapshot.{Snapshot}
@@ -24,7 +24,7 @@ use Rattle.rb_script.specs.Drawings.{drawing_line, ring_drawing}
 use Rattle.rb_script.specs.OutputLines.{ring_line}
 use Rattle.rb_script.specs.Simulation.{lines_below, ring_state_text}
 
-pub machines-long : (setups : List WorkerSetup) (machines : List (MachineState WorldRecord)) → AllZip IsStarted setups machines → length setups ≡ length machines
+pub machines-long : (setups : List WorkerSetup) (machines : List (MachineState RingRecord)) → AllZip IsStarted setups machines → length setups ≡ length machines
 machines-long [] [] h = refl
 machines-long [] (y ∷ machines) h = absurd h
 machines-long (x ∷ setups) [] h = absurd h
