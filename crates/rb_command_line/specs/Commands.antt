@@ -15,7 +15,7 @@ use Rattle.rb_run_commands.specs.TapedRun.{PrintsRun}
 use Rattle.rb_run_commands.specs.declared.jobs_request.JobsRequest.{JobsRequest}
 use Rattle.rb_script.specs.Simulated.{PrintsSim}
 use Rattle.rb_service.specs.Command.{IsAllowed}
-use Rattle.rb_service.specs.Counters.{AppendsCounters}
+use Rattle.rb_service.specs.PrintedStream.{PrintsStream}
 use Rattle.rb_service.specs.declared.options.StreamOptions.{StreamOptions}
 use Rattle.rb_tape_commands.specs.Feed.{FeedAnswerMatches}
 use Rattle.rb_tape_commands.specs.TapeText.{IsTape}
@@ -97,11 +97,12 @@ pub record CarriesOutOver (F : Type 0) (contents : F → Option (List ℕ)) (ask
   pub reads_input : asked.file ≡ None → read ≡ s.input
   pub carried_out : CarriesOut F contents asked.request (record s { input = read })
 
--- the options of the stream are allowed, and its counters were printed on the error output
+-- The options are allowed, a stream was run with them over the input, or over the file that they name, and the counters
+-- of its report were printed on the error output, and nothing else.
 pub record Streamed (options : StreamOptions) (s : Streams) : Type 0 where
   pub allowed : IsAllowed options
   pub counters : List ℕ
-  pub counted : AppendsCounters [] counters
+  pub printed : PrintsStream options s.input [] counters
   pub told : Appends s.err_before s.err_after counters
 
 -- what a command did that ended with status 0; no contract describes what `follow` prints
