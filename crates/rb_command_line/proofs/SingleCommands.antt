@@ -4,14 +4,13 @@ use Rattle.std.specs.Prelude.{IfSome, OnOk}
 use Rattle.std.specs.Io.KnownBytes.{Keeps}
 use Rattle.rb_history.specs.RingModel.{IsRingSize, IsStartPosition, IsWorkerCount}
 use Rattle.rb_json.specs.declared.form.LineForm.{LineForm}
-use Rattle.rb_json.specs.declared.form.LineForm.TheVariants.{Words}
 use Rattle.rb_run_commands.specs.TapedRun.{PrintsRun}
 use Rattle.rb_run_commands.specs.declared.jobs_request.JobsRequest.{JobsRequest}
 use Rattle.rb_script.specs.Simulated.{PrintsSim}
 use Rattle.rb_tape_commands.specs.Feed.{FeedAnswerMatches}
 use Rattle.rb_tape_commands.specs.TapeText.{IsTape}
 use Rattle.rb_loader.specs.declared.program.Bounds.{Bounds}
-use Rattle.rb_command_line.specs.Commands.{PrintsCostWith, PrintsSimAs, RunsJobs, Streams}
+use Rattle.rb_command_line.specs.Commands.{PrintsCostWith, RunsJobs, Streams}
 use Rattle.rb_command_line.specs.declared.cost_sizes.SizesFor.{SizesFor}
 use Rattle.rb_command_line.specs.inner.Endings.{EndsWith}
 use Rattle.rb_command_line.specs.declared.request.Subcommand.{Subcommand}
@@ -50,26 +49,9 @@ runs_jobs F contents jobs is_taped s (Err _) printed bounds = tt
 
 -- ---- sim
 
--- the lines were printed in words
-pub sim_words : {A E : Type 0} (draw : Bool) (form : LineForm) (input before after : Option (List ℕ)) (answer : Result A E) → form ≡ Words
-    → OnOk answer (IfSome input (λ text. PrintsSim draw text before after)) → OnOk answer (IfSome input (λ text. PrintsSimAs form draw text before after))
-sim_words draw form input before after answer is printed = subst (λ f. OnOk answer (IfSome input (λ text. PrintsSimAs f draw text before after))) (sym is) printed
-
--- the form is known
-pub sim_as : {A E : Type 0} (draw : Bool) (form known : LineForm) (script : List ℕ) (before after : Option (List ℕ)) (answer : Result A E) → form ≡ known
-    → OnOk answer (PrintsSimAs known draw script before after) → OnOk answer (PrintsSimAs form draw script before after)
-sim_as draw form known script before after answer is printed = subst (λ f. OnOk answer (PrintsSimAs f draw script before after)) (sym is) printed
-
 -- the whole input was read before
 pub sim_of_read : {A E : Type 0} (draw : Bool) (form : LineForm) (input before after : Option (List ℕ)) (script lent : List ℕ) (answer : Result A E) → IfSome input (λ unread. script ≡ unread) → lent ≡ script
-    → OnOk answer (PrintsSimAs form draw lent before after) → OnOk answer (IfSome input (λ text. PrintsSimAs form draw text before after))
+    → OnOk answer (PrintsSim form draw lent before after) → OnOk answer (IfSome input (λ text. PrintsSim form draw text before after))
 sim_of_read draw form None before after script lent (Ok _) read same printed = tt
-sim_of_read draw form (Some text) before after script lent (Ok _) read same printed = subst (λ t. PrintsSimAs form draw t before after) (same ∙ read) printed
+sim_of_read draw form (Some text) before after script lent (Ok _) read same printed = subst (λ t. PrintsSim form draw t before after) (same ∙ read) printed
 sim_of_read draw form input before after script lent (Err _) read same printed = tt
-
--- the lines were made in a list that was empty
-pub sim_made : {A E : Type 0} (draw : Bool) (script first lines : List ℕ) (answer : Result A E) (value : A) → first ≡ [] → answer ≡ Ok value → OnOk answer (PrintsSim draw script (Some first) (Some lines))
-    → (made : List ℕ) × PrintsSim draw script (Some []) (Some made)
-sim_made draw script first lines answer value empty is printed =
-    let done : PrintsSim draw script (Some first) (Some lines) = subst (λ a. OnOk a (PrintsSim draw script (Some first) (Some lines))) is printed in
-    (lines, subst (λ l. PrintsSim draw script (Some l) (Some lines)) empty done)

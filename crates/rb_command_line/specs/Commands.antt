@@ -73,12 +73,6 @@ pub record RunsJobs (F : Type 0) (contents : F → Option (List ℕ)) (jobs : Jo
   pub workers_are : IsWorkerCount jobs.workers
   pub printed : PrintsRun F contents is_taped s.input jobs s.out_before s.out_after s.err_before s.err_after
 
--- The script of the text was run, and the lines of its turns were printed. With `--json`, these lines were made in
--- memory, and no contract says how they were printed as objects.
-abbrev pub PrintsSimAs : LineForm → Bool → List ℕ → Option (List ℕ) → Option (List ℕ) → Type 0
-PrintsSimAs Words draw text before after = PrintsSim draw text before after
-PrintsSimAs Json draw text before after = (lines : List ℕ) × PrintsSim draw text (Some []) (Some lines)
-
 -- what a command did with its input; `contents` are the bytes of a tape's file, if they are known
 abbrev pub CarriesOut : (F : Type 0) → (F → Option (List ℕ)) → Subcommand → Streams → Type 0
 CarriesOut F contents (Feed size start retries form) s = Feeds size start form s
@@ -87,7 +81,7 @@ CarriesOut F contents (Check bounds form portable) s = IfSome s.input (λ text. 
 CarriesOut F contents (Explain bounds form portable) s = IfSome s.input (λ text. PrintsExplanation portable form text bounds.ctx_len bounds.rings s.out_before s.out_after)
 CarriesOut F contents (Cost bounds form sizes) s = IfSome s.input (λ text. PrintsCostWith bounds form sizes text s.out_before s.out_after)
 CarriesOut F contents (Run jobs tape) s = RunsJobs F contents jobs (is_some tape) s
-CarriesOut F contents (Sim draw form) s = IfSome s.input (λ text. PrintsSimAs form draw text s.out_before s.out_after)
+CarriesOut F contents (Sim draw form) s = IfSome s.input (λ text. PrintsSim form draw text s.out_before s.out_after)
 
 -- ---- any command
 
