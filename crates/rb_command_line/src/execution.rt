@@ -1,10 +1,12 @@
 //! Executes one command over a reader and two writers.
 
-ghost use Rattle.std.specs.Prelude.{Some, IfOk, IfSome, OnOk, is_some};
+ghost use Rattle.std.specs.Prelude.{◌≡◌, ℕ, List, Option, Some, IfOk, IfSome, OnOk, is_some};
+ghost use Rattle.std.specs.Io.KnownBytes.{Appends};
 ghost use Rattle.rb_history.specs.RingModel.{IsRingSize, IsStartPosition};
+ghost use Rattle.rb_history.specs.TapeBytes.{AreItemsFrom, Item, tape};
 ghost use Rattle.rb_script.specs.Simulated.{PrintsSim};
-ghost use Rattle.rb_tape_commands.specs.Feed.{FeedAnswerMatches};
-ghost use Rattle.rb_tape_commands.specs.TapeText.{IsTape};
+ghost use Rattle.rb_tape_commands.specs.Feed.{FeedsWhole};
+ghost use Rattle.rb_tape_commands.specs.TapeText.{tape_lines};
 ghost use Rattle.rb_command_line.specs.Commands.{RunsJobs};
 ghost use Rattle.rb_command_line.specs.inner.Endings.{EndsWith};
 
@@ -102,7 +104,7 @@ fn feed_metered<T: Clock + Eprint, R: Read, W: Write>(
     retries: u32,
 ) -> Result<(u64, u64), FeedFault>
     ensures bounds { OnOk result (IsRingSize size × IsStartPosition start) }
-    ensures answer { FeedAnswerMatches size start (R.remaining input.old) result }
+    ensures fed { IfOk result (λ ends. (left : Option (List ℕ)) × FeedsWhole (record { size = size; start = start; input_before = R.remaining input.old; input_after = left; output_before = W.contents out.old; output_after = W.contents out.new }) ends) }
 {
     let mut input = Metered::new(input, progress);
     feed_buffered(alloc, &mut input, out, size, start, retries)
@@ -119,7 +121,7 @@ fn tape_metered<T: Clock + Eprint, R: Read, W: Write>(
     form: LineForm,
 ) -> Result<(), TapeRefusal>
     ensures bounds { OnOk result (IsRingSize size × IsStartPosition start) }
-    ensures whole { OnOk result (IfSome (R.remaining input.old) (IsTape size start)) }
+    ensures printed { OnOk result ((items : List Item) × AreItemsFrom size start items × IfSome (R.remaining input.old) (λ bytes. bytes ≡ tape size items) × Appends (W.contents out.old) (W.contents out.new) (tape_lines form items)) }
 {
     let mut input = Metered::new(input, progress);
     tape_buffered(alloc, &mut input, out, size, start, form)

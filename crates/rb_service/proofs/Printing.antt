@@ -127,3 +127,8 @@ counters_appended (Err e) old new text report counts passed made options grown t
 -- there is a name for each ring
 pub names_length : (passed made : List (Bor (List ℕ))) (options : StreamOptions) → passed ≡ made → map (λ n. n.now) made ≡ names_of_rings options → length passed ≡ length options.rings.items
 names_length passed made options same are = ap length same ∙ (sym (length-map made (λ n. n.now)) ∙ (ap length are ∙ length-map options.rings.items (λ r. r.name.now)))
+
+-- what was appended stays appended, also if the next call succeeds
+pub appended_on_ok : {A B : Type 0} (answer : Result A B) (old new more : List ℕ) → new ≡ old ++ more → OnOk answer (new ≡ old ++ more)
+appended_on_ok (Ok a) old new more grown = grown
+appended_on_ok (Err e) old new more grown = tt

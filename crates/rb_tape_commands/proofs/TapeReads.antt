@@ -17,7 +17,7 @@ use Rattle.rb_tape.specs.TapeFront.{ShowsFault, IsUndecided, StartsWithItem, IsF
 use Rattle.rb_tape.specs.TapeReading.{Reading, AddsPiece, reading_from}
 use Rattle.rb_tape.specs.LongestTape.{HasReadItems}
 use Rattle.rb_tape.proofs.ItemsRead.{begins, fed, goes_on, is_longest}
-use Rattle.rb_tape_commands.specs.TapeText.{tape_line_as, tape_lines, PrintsTape, PrintsFirst, PrintsSome, IsTape, TapeAnswer}
+use Rattle.rb_tape_commands.specs.TapeText.{tape_line_as, tape_lines, PrintsTape, PrintsFirst, PrintsSome, TapeAnswer}
 use Rattle.rb_tape_commands.specs.inner.TapePrinting.{PrintsSoFar, EndsTape, PrintsWhole}
 use Rattle.rb_tape_commands.specs.inner.LineGathering.{PassesItems, ReadsLines, GathersLines}
 use Rattle.rb_tape_commands.specs.declared.tape_refusal.TapeRefusal.{TapeRefusal}
@@ -347,9 +347,3 @@ module _ (form : LineForm) where
 
   pub opened_whole : (size start : ℕ) (r : Reading) (u h g : Option (List ℕ)) (result : Result (Unit {0}) TapeRefusal) → r ≡ reading_from size start [] → OnOk result (PrintsWhole form r.size r.start u h g) → OnOk result (PrintsWhole form size start u h g)
   opened_whole size start r u h g result opened p = subst (λ (q : Reading). OnOk result (PrintsWhole form q.size q.start u h g)) opened p
-
-  -- the input is a tape
-  pub whole_tape : (size start : ℕ) (u h g : Option (List ℕ)) (result : Result (Unit {0}) TapeRefusal) → OnOk result (PrintsWhole form size start u h g) → OnOk result (IfSome u (IsTape size start))
-  whole_tape size start None h g (Ok _) p = tt
-  whole_tape size start (Some input) h g (Ok _) p = (p.0, record { stand = p.1; text = p.2 ∙ sym (append-nil (tape size p.0)) })
-  whole_tape size start u h g (Err e) p = tt

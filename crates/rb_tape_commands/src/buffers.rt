@@ -5,7 +5,7 @@ ghost use Rattle.std.specs.Io.KnownBytes.{Appends};
 ghost use Rattle.rb_history.specs.RingModel.{IsRingSize, IsStartPosition};
 ghost use Rattle.rb_history.specs.TapeBytes.{AreItemsFrom, Item, tape};
 ghost use Rattle.rb_tape_commands.specs.Feed.{AnswersAlone, FeedAnswerMatches, FeedResult};
-ghost use Rattle.rb_tape_commands.specs.TapeText.{IsTape, TapeAnswer, tape_lines};
+ghost use Rattle.rb_tape_commands.specs.TapeText.{TapeAnswer, tape_lines};
 
 use crate::feed_command::feed;
 use crate::feed_fault::FeedFault;
@@ -82,7 +82,6 @@ pub fn tape_buffered<R: Read, W: Write>(
     ensures answer { result ≢ Err TapeRefusal.Device → IfSome (R.remaining input.old) (λ bytes. TapeAnswer form size start bytes (W.contents out.old) (W.contents out.new) result) }
     ensures printed { OnOk result ((items : List Item) × AreItemsFrom size start items × IfSome (R.remaining input.old) (λ bytes. bytes ≡ tape size items) × Appends (W.contents out.old) (W.contents out.new) (tape_lines form items)) }
     ensures bounds { OnOk result (IsRingSize size × IsStartPosition start) }
-    ensures whole { OnOk result (IfSome (R.remaining input.old) (IsTape size start)) }
 {
     let Ok(reader) = ReadAhead::new(alloc, input) else {
         return Err(TapeRefusal::Memory);
@@ -106,7 +105,6 @@ where
     ensures answer { result.1 ≢ Err TapeRefusal.Device → IfSome (R.remaining reader) (λ bytes. TapeAnswer form size start bytes (W.contents out) (W.contents result.0) result.1) }
     ensures printed { OnOk result.1 ((items : List Item) × AreItemsFrom size start items × IfSome (R.remaining reader) (λ bytes. bytes ≡ tape size items) × Appends (W.contents out) (W.contents result.0) (tape_lines form items)) }
     ensures bounds { OnOk result.1 (IsRingSize size × IsStartPosition start) }
-    ensures whole { OnOk result.1 (IfSome (R.remaining reader) (IsTape size start)) }
 {
     let mut writer = match Buffered::over(alloc, out) {
         Ok(writer) => writer,
