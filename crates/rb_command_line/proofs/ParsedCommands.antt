@@ -6,6 +6,7 @@ use Rattle.std.proofs.lemmas.Bool.{false≢true}
 use Rattle.rb_service.specs.Command.{IsAllowed}
 use Rattle.rb_service.specs.PrintedStream.{PrintsStream}
 use Rattle.rb_service.specs.declared.options.StreamOptions.{StreamOptions}
+use Rattle.rb_tape_commands.specs.Follow.{FollowsRing}
 use Rattle.rb_command_line.specs.Commands.{CarriesOut, CarriesOutOver, Executes, Streamed, Streams}
 use Rattle.rb_command_line.specs.declared.follow_request.FollowRequest.{FollowRequest}
 use Rattle.rb_command_line.specs.declared.request.CommandLine.{CommandLine}
@@ -34,8 +35,8 @@ module _ (F : Type 0) (contents : F → Option (List ℕ)) where
     pub executes_stream : (options : StreamOptions) → command ≡ parsed.Stream options → Streamed options s → Executes F contents command s
     executes_stream options is done = subst (λ p. Executes F contents p s) (sym is) done
 
-    pub executes_follow : (asked : FollowRequest) → command ≡ parsed.Follow asked → Executes F contents command s
-    executes_follow asked is = subst (λ p. Executes F contents p s) (sym is) tt
+    pub executes_follow : (asked : FollowRequest) → command ≡ parsed.Follow asked → FollowsRing asked.form asked.from s.out_before s.out_after → Executes F contents command s
+    executes_follow asked is done = subst (λ p. Executes F contents p s) (sym is) done
 
 -- ---- stream
 
