@@ -52,11 +52,12 @@ module _ (F : Type 0) (contents : F → Option (List ℕ)) (asked : Subcommand) 
 
 -- ---- feed
 
-pub fed_whole : (size start : ℕ) (input before after : Option (List ℕ)) (answer : Result (ℕ × ℕ) FeedFault)
-    → (answer ≢ Err Device → (left : Option (List ℕ)) × FeedResult (record { size = size; start = start; input_before = input; input_after = left; output_before = before; output_after = after }) answer)
+pub fed_whole : (size start : ℕ) (input known before after : Option (List ℕ)) (answer : Result (ℕ × ℕ) FeedFault) → known ≡ input
+    → (answer ≢ Err Device → (left : Option (List ℕ)) × FeedResult (record { size = size; start = start; input_before = known; input_after = left; output_before = before; output_after = after }) answer)
     → IfOk answer (λ ends. (left : Option (List ℕ)) × FeedsWhole (record { size = size; start = start; input_before = input; input_after = left; output_before = before; output_after = after }) ends)
-fed_whole size start input before after (Ok ends) fed = fed (λ e. let same = e in cc)
-fed_whole size start input before after (Err _) fed = tt
+fed_whole size start input known before after (Ok ends) same fed =
+    subst (λ read. (left : Option (List ℕ)) × FeedsWhole (record { size = size; start = start; input_before = read; input_after = left; output_before = before; output_after = after }) ends) same (fed (λ e. let is = e in cc))
+fed_whole size start input known before after (Err _) same fed = tt
 
 -- ---- cost
 
