@@ -175,12 +175,7 @@ impl EngineRings {
 
     // Submits or discards a record, or returns it if it is in no hand of its ring. Does not append the call to the
     // trace.
-    fn try_end(
-        &mut self,
-        owned: RingRecord,
-        end: RecordEnd,
-        flags: u64,
-    ) -> Result<(), RingRecord>
+    fn try_end(&mut self, owned: RingRecord, end: RecordEnd, flags: u64) -> Result<(), RingRecord>
         ensures rest { self.new ≡ record self.old { rings = self.new.rings } }
         ensures count { length self.new.rings ≡ length self.old.rings }
         ensures answered { EndAnswered end owned (is_ok result) self.old.rings self.new.rings }
