@@ -75,12 +75,12 @@ fn tell_listing(text: &str, out: &mut AnswerText) {
 
 // Appends the instruction in each line of a unit, without a helper's name.
 fn tell_assembly(text: &str, out: &mut AnswerText) {
-    let mut gap = ": ";
+    let mut is_first = true;
     for line in text.lines() {
         if line.starts_with(' ') && !line.starts_with("      #") {
-            out.push(gap);
+            out.push(if is_first { ": " } else { " ; " });
             out.push(insn_in(line));
-            gap = " ; ";
+            is_first = false;
         }
     }
 }
