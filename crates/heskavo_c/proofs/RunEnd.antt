@@ -22,7 +22,7 @@ use Rattle.rb_world.specs.declared.turn_done.TurnDone.{TurnDone}
 use Rattle.rb_world.specs.declared.turn_done.TurnDone.TheVariants as answer
 use Rattle.rb_world.specs.declared.world_fault.WorldOpenFault.{WorldOpenFault}
 use Rattle.rb_world.specs.declared.world_fault.WorldOpenFault.TheVariants as fault
-use Rattle.rb_world.specs.declared.world_record.WorldRecord.{WorldRecord}
+use Rattle.rb_chapter_ring.specs.declared.ring_record.RingRecord.{RingRecord}
 use Rattle.rb_world.specs.EveryInterleaving.{HasFinished, IsReachedWorld, turns_of, is_turn_of}
 use Rattle.rb_world.specs.OpenedWorlds.{AreRings, HaveContexts, HaveRings, HaveRooms, IsOpenedWorld, IsRingSetup, IsStarted, MayOpen, opened_rings}
 use Rattle.rb_world.specs.OpeningWorld.{IsActor, IsOpeningWorld}
@@ -115,7 +115,7 @@ all-right P (x ∷ xs) ys all = all-right P xs ys (All-tail P x (xs ++ ys) all)
 
 -- ---- the first world of a run
 
-first-subject : (x : WorkerSetup) (ms : List (MachineState WorldRecord)) → AllZip IsStarted (x ∷ []) ms → (get_or (map worker_of ms) 0 no_worker).subject ≡ x.program.now
+first-subject : (x : WorkerSetup) (ms : List (MachineState RingRecord)) → AllZip IsStarted (x ∷ []) ms → (get_or (map worker_of ms) 0 no_worker).subject ≡ x.program.now
 first-subject x [] started = absurd started
 first-subject x (m ∷ ms) started = started.0.program
 

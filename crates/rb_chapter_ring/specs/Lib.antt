@@ -17,4 +17,5 @@ pub mod RingFaults
 pub mod ManyTakes
 pub mod HandGranted
 pub mod TaggedRing
+pub mod RingRecords
 pub mod inner

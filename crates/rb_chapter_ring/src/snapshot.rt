@@ -19,8 +19,8 @@ use rb_history::{Tally, span};
 use std::alloc::{AllocError, Global};
 use std::marker::Model;
 
-// The number of taken records from which on `compact` reuses their memory, a quarter of a megabyte.
-const LEAST_TAKEN: usize = 8_192;
+// The number of taken records from which on `compact` reuses their memory, 32 KiB.
+const LEAST_TAKEN: usize = 1_024;
 
 // The largest number of records that `compact` moves.
 const MOST_MOVED: usize = 4_096;
@@ -189,15 +189,16 @@ impl Snapshot {
         record.pos
     }
 
-    // Moves the untaken records to the front of their memory, if they are few and many were taken. So a list whose
-    // records are taken in time uses little of its memory.
+    // Moves the untaken records to the front of their memory, if they are few and at least twice as many were taken
+    // since the last move. So a list whose records are taken in time uses little of its memory, and a record is moved
+    // once at most for every two that are taken.
     pub(crate) fn compact(&mut self)
         ensures same { self.new.opening ≡ self.old.opening }
         ensures room { self.new.room ≡ self.old.room }
         ensures passed { self.new.passed ≤ self.old.passed }
     {
         let left = self.records.len() - self.first;
-        if self.first >= LEAST_TAKEN && left <= MOST_MOVED {
+        if self.first >= LEAST_TAKEN && left <= MOST_MOVED && left <= self.first / 2 {
             remove_front(&mut self.records, self.first);
             self.first = 0;
         }

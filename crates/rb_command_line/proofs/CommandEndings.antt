@@ -73,8 +73,17 @@ module _ (input out_before out_after : Option (List ℕ)) where
 
       printed_told : (asked : Subcommand) (ends : Option (ℕ × ℕ)) → EndsWith F contents asked (streams (Some []) (Some told)) ends → EndsWith F contents asked (streams before after) ends
       printed_told (Feed size start retries form) None e = absurd e
-      printed_told (Feed size start retries form) (Some ends) e = record { size_is = e.size_is; start_is = e.start_is; whole = e.whole; quiet = keeps before after (moved [] e.quiet) }
-      printed_told (Tape size start form) ends e = (e.0, record { size_is = e.1.size_is; start_is = e.1.start_is; whole = e.1.whole })
+      printed_told (Feed size start retries form) (Some ends) e = record {
+        size_is = e.size_is;
+        start_is = e.start_is;
+        payloads = e.payloads;
+        stand = e.stand;
+        whole = e.whole;
+        written = e.written;
+        ends_are = e.ends_are;
+        quiet = keeps before after (moved [] e.quiet);
+      }
+      printed_told (Tape size start form) ends e = (e.0, record { size_is = e.1.size_is; start_is = e.1.start_is; records = e.1.records; stand = e.1.stand; whole = e.1.whole; printed = e.1.printed })
       printed_told (Check bounds form portable) ends e = e
       printed_told (Explain bounds form portable) ends e = e
       printed_told (Cost bounds form sizes) ends e = e
@@ -115,7 +124,15 @@ module _ (input out_before out_after : Option (List ℕ)) where
     -- the end of the tape of `feed` is printed
     ended_at : (asked : Subcommand) (ends : ℕ × ℕ) (before between after : Option (List ℕ)) → EndsWith F contents asked (streams before between) (Some ends)
         → Appends between after (end_line (form_of asked) ends) → CarriesOut F contents asked (streams before after)
-    ended_at (Feed size start retries form) ends before between after e wrote = record { size_is = e.size_is; start_is = e.start_is; ends = ends; whole = e.whole; told = kept_then before between after _ e.quiet wrote }
+    ended_at (Feed size start retries form) ends before between after e wrote = record {
+      size_is = e.size_is;
+      start_is = e.start_is;
+      payloads = e.payloads;
+      stand = e.stand;
+      whole = e.whole;
+      written = e.written;
+      told = subst (λ ends. Appends before after (end_line form ends)) e.ends_are (kept_then before between after _ e.quiet wrote);
+    }
     ended_at (Tape size start form) ends before between after e wrote = absurd (none_is_some ends e.0)
     ended_at (Check bounds form portable) ends before between after e wrote = absurd (none_is_some ends e.0)
     ended_at (Explain bounds form portable) ends before between after e wrote = absurd (none_is_some ends e.0)

@@ -4,8 +4,9 @@ use Rattle.std.specs.Prelude.{OnOk, is_ok}
 use Rattle.std.specs.Io.KnownBytes.{Appends}
 use Rattle.std.proofs.lemmas.Bool.{false≢true}
 use Rattle.rb_service.specs.Command.{IsAllowed}
-use Rattle.rb_service.specs.Counters.{AppendsCounters}
+use Rattle.rb_service.specs.PrintedStream.{PrintsStream}
 use Rattle.rb_service.specs.declared.options.StreamOptions.{StreamOptions}
+use Rattle.rb_tape_commands.specs.Follow.{FollowsRing}
 use Rattle.rb_command_line.specs.Commands.{CarriesOut, CarriesOutOver, Executes, Streamed, Streams}
 use Rattle.rb_command_line.specs.declared.follow_request.FollowRequest.{FollowRequest}
 use Rattle.rb_command_line.specs.declared.request.CommandLine.{CommandLine}
@@ -34,19 +35,19 @@ module _ (F : Type 0) (contents : F → Option (List ℕ)) where
     pub executes_stream : (options : StreamOptions) → command ≡ parsed.Stream options → Streamed options s → Executes F contents command s
     executes_stream options is done = subst (λ p. Executes F contents p s) (sym is) done
 
-    pub executes_follow : (asked : FollowRequest) → command ≡ parsed.Follow asked → Executes F contents command s
-    executes_follow asked is = subst (λ p. Executes F contents p s) (sym is) tt
+    pub executes_follow : (asked : FollowRequest) → command ≡ parsed.Follow asked → FollowsRing asked.form asked.from s.out_before s.out_after → Executes F contents command s
+    executes_follow asked is done = subst (λ p. Executes F contents p s) (sym is) done
 
 -- ---- stream
 
 pub streamed : {A B C D : Type 0} (options : StreamOptions) (s : Streams) (answer : Result A B) (printed : Result C D) (value : A) (first counters text : List ℕ) → answer ≡ Ok value
-    → OnOk answer (IsAllowed options) → OnOk answer (AppendsCounters first counters) → first ≡ [] → is_ok printed ≡ true → OnOk printed (Appends s.err_before s.err_after text) → text ≡ counters
+    → OnOk answer (IsAllowed options) → OnOk answer (PrintsStream options s.input first counters) → first ≡ [] → is_ok printed ≡ true → OnOk printed (Appends s.err_before s.err_after text) → text ≡ counters
     → Streamed options s
-streamed options s (Ok _) (Ok _) value first counters text is allowed counted empty ok told same = record {
+streamed options s (Ok _) (Ok _) value first counters text is allowed ran empty ok told same = record {
   allowed = allowed;
   counters = counters;
-  counted = subst (λ l. AppendsCounters l counters) empty counted;
+  printed = subst (λ l. PrintsStream options s.input l counters) empty ran;
   told = subst (Appends s.err_before s.err_after) same told;
 }
-streamed options s (Ok _) (Err _) value first counters text is allowed counted empty ok told same = absurd (false≢true ok)
-streamed options s (Err _) printed value first counters text is allowed counted empty ok told same = absurd (let e = is in cc)
+streamed options s (Ok _) (Err _) value first counters text is allowed ran empty ok told same = absurd (false≢true ok)
+streamed options s (Err _) printed value first counters text is allowed ran empty ok told same = absurd (let e = is in cc)

@@ -1,11 +1,13 @@
 //! Executes one command over a reader and two writers.
 
-ghost use Rattle.std.specs.Prelude.{ℕ, List, [], Some, IfOk, IfSome, OnOk, is_some};
+ghost use Rattle.std.specs.Prelude.{◌≡◌, ℕ, List, Option, Some, IfOk, IfSome, OnOk, is_some};
+ghost use Rattle.std.specs.Io.KnownBytes.{Appends};
 ghost use Rattle.rb_history.specs.RingModel.{IsRingSize, IsStartPosition};
+ghost use Rattle.rb_history.specs.TapeBytes.{AreItemsFrom, Item, tape};
 ghost use Rattle.rb_script.specs.Simulated.{PrintsSim};
-ghost use Rattle.rb_tape_commands.specs.Feed.{FeedAnswerMatches};
-ghost use Rattle.rb_tape_commands.specs.TapeText.{IsTape};
-ghost use Rattle.rb_command_line.specs.Commands.{PrintsSimAs, RunsJobs};
+ghost use Rattle.rb_tape_commands.specs.Feed.{FeedsWhole};
+ghost use Rattle.rb_tape_commands.specs.TapeText.{tape_lines};
+ghost use Rattle.rb_command_line.specs.Commands.{RunsJobs};
 ghost use Rattle.rb_command_line.specs.inner.Endings.{EndsWith};
 
 use crate::cost_sizes::cost_with_sizes;
@@ -13,7 +15,6 @@ use crate::progress::{Metered, Progress};
 use crate::reasons::Seen;
 use crate::refusal::CommandRefusal;
 use crate::request::{CommandLine, Subcommand};
-use crate::sim_json::print_objects;
 use rb_json::LineForm;
 use rb_loader::{ProgramFault, explain, read_all};
 use rb_run_commands::{JobsFault, JobsRequest, TapeFile, check, run};
@@ -103,7 +104,7 @@ fn feed_metered<T: Clock + Eprint, R: Read, W: Write>(
     retries: u32,
 ) -> Result<(u64, u64), FeedFault>
     ensures bounds { OnOk result (IsRingSize size × IsStartPosition start) }
-    ensures answer { FeedAnswerMatches size start (R.remaining input.old) result }
+    ensures fed { IfOk result (λ ends. (left : Option (List ℕ)) × FeedsWhole (record { size = size; start = start; input_before = R.remaining input.old; input_after = left; output_before = W.contents out.old; output_after = W.contents out.new }) ends) }
 {
     let mut input = Metered::new(input, progress);
     feed_buffered(alloc, &mut input, out, size, start, retries)
@@ -120,7 +121,7 @@ fn tape_metered<T: Clock + Eprint, R: Read, W: Write>(
     form: LineForm,
 ) -> Result<(), TapeRefusal>
     ensures bounds { OnOk result (IsRingSize size × IsStartPosition start) }
-    ensures whole { OnOk result (IfSome (R.remaining input.old) (IsTape size start)) }
+    ensures printed { OnOk result ((items : List Item) × AreItemsFrom size start items × IfSome (R.remaining input.old) (λ bytes. bytes ≡ tape size items) × Appends (W.contents out.old) (W.contents out.new) (tape_lines form items)) }
 {
     let mut input = Metered::new(input, progress);
     tape_buffered(alloc, &mut input, out, size, start, form)
@@ -162,10 +163,10 @@ fn sim_reported<T: Clock + Eprint, R: Read, W: Write>(
     why: bool,
     seen: &mut Seen,
 ) -> Result<(), SimFault>
-    ensures printed { OnOk result (IfSome (R.remaining input.old) (λ text. PrintsSimAs form draw text (W.contents out.old) (W.contents out.new))) }
+    ensures printed { OnOk result (IfSome (R.remaining input.old) (λ text. PrintsSim form draw text (W.contents out.old) (W.contents out.new))) }
 {
     match form {
-        LineForm::Words if !why => sim(alloc, input, out, draw, progress),
+        LineForm::Words if !why => sim(alloc, input, out, draw, form, progress),
         _ => sim_kept(alloc, input, out, progress, draw, form, seen),
     }
 }
@@ -180,60 +181,17 @@ fn sim_kept<T: Clock + Eprint, R: Read, W: Write>(
     form: LineForm,
     seen: &mut Seen,
 ) -> Result<(), SimFault>
-    ensures printed { OnOk result (IfSome (R.remaining input.old) (λ text. PrintsSimAs form draw text (W.contents out.old) (W.contents out.new))) }
+    ensures printed { OnOk result (IfSome (R.remaining input.old) (λ text. PrintsSim form draw text (W.contents out.old) (W.contents out.new))) }
 {
     let script = match read_all(alloc, input) {
         Ok(script) => script,
         Err(ProgramFault::Memory) => return Err(SimFault::Memory),
         Err(_) => return Err(SimFault::Device),
     };
-    let answer = sim_script(alloc, script.as_slice(), out, progress, draw, form);
+    let mut text = script.as_slice();
+    let answer = sim(alloc, &mut text, out, draw, form, progress);
     if let Err(SimFault::Line(line)) = answer {
         seen.line = line_reason(alloc, script.as_slice(), line).ok();
     }
     answer
-}
-
-// Runs a script that was read, and prints its lines in this form.
-fn sim_script<T: Clock + Eprint, W: Write>(
-    alloc: Global,
-    mut script: &[u8],
-    out: &mut W,
-    progress: &Progress<'_, T>,
-    draw: bool,
-    form: LineForm,
-) -> Result<(), SimFault>
-    ensures printed { OnOk result (PrintsSimAs form draw script.now (W.contents out.old) (W.contents out.new)) }
-{
-    match form {
-        LineForm::Words => sim(alloc, &mut script, out, draw, progress),
-        LineForm::Json => sim_objects(alloc, script, out, progress, draw),
-    }
-}
-
-// Runs a script and prints an object for each line, including those before memory ran out.
-fn sim_objects<T: Clock + Eprint, W: Write>(
-    alloc: Global,
-    mut script: &[u8],
-    out: &mut W,
-    progress: &Progress<'_, T>,
-    draw: bool,
-) -> Result<(), SimFault>
-    ensures ran { OnOk result ((lines : List ℕ) × PrintsSim draw script.now (Some []) (Some lines)) }
-{
-    let mut lines = Vec::new(alloc);
-    let answer = sim(alloc, &mut script, &mut lines, draw, progress);
-    print_objects(alloc, lines.as_slice(), out)?;
-    match answer {
-        Ok(()) => Ok(()),
-        Err(fault) => Err(list_fault(fault)),
-    }
-}
-
-// Returns the fault of a script whose lines go to a list. A write to a list fails only if memory can't be allocated.
-fn list_fault(fault: SimFault) -> SimFault {
-    match fault {
-        SimFault::Device => SimFault::Memory,
-        _ => fault,
-    }
 }

@@ -1,6 +1,7 @@
 //! The command `follow`: what its words request, and its status.
 
-ghost use Rattle.std.specs.Prelude.{◌≤◌};
+ghost use Rattle.std.specs.Prelude.{◌≡◌, ◌≤◌};
+ghost use Rattle.rb_tape_commands.specs.Follow.{FollowsRing};
 
 use crate::option_values::{Values, decimal};
 use clap::Error;
@@ -52,7 +53,8 @@ pub(crate) fn carry_out_follow<T: Files + Clock, W: Write, E: Write>(
     out: &mut W,
     err: &mut E,
 ) -> u8
-    ensures { result ≤ 1 }
+    ensures status { result ≤ 1 }
+    ensures printed { result ≡ 0 → FollowsRing asked.now.form asked.now.from (W.contents out.old) (W.contents out.new) }
 {
     match follow(
         rt,

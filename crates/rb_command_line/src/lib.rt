@@ -17,7 +17,6 @@ mod progress;
 mod reasons;
 mod refusal;
 mod request;
-mod sim_json;
 mod stream_command;
 mod stream_request;
 mod stream_table;

@@ -14,7 +14,7 @@ use Rattle.rb_chapter_ring.specs.declared.record_end.RecordEnd.TheVariants as en
 use Rattle.rb_engine.specs.EngineCalls.{AtRing, EndAnswered, IsStillOut, OutputAnswered, QueryAnswered, ReserveAnswered, record_name}
 use Rattle.rb_engine.specs.RingCalls.{Grants, HasNoRoom, IsNotSent, IsRefused, Outputs}
 use Rattle.rb_engine.specs.RingTurns.{AfterTurn, MayTurn}
-use Rattle.rb_engine.specs.declared.engine_record.EngineRecord.{EngineRecord}
+use Rattle.rb_chapter_ring.specs.declared.ring_record.RingRecord.{RingRecord}
 
 -- ---- one of several rings
 
@@ -112,20 +112,20 @@ hand-back v r own out = subst (λ w. hand_at v.hands w r.hand ≡ Some (out_reco
 -- ---- all rings
 
 module _ (old new : List HandRing) where
-  same-rings : new ≡ old → (s : EngineRecord) → IsStillOut old s → IsStillOut new s
+  same-rings : new ≡ old → (s : RingRecord) → IsStillOut old s → IsStillOut new s
   same-rings same s kept = record { ring = kept.ring; ring_is = ap (λ l. slice_get l s.ring) same ∙ kept.ring_is; worker_is = kept.worker_is; out = kept.out }
 
-  was : (Did : HandRing → HandRing → Type 0) (ring : ℕ) (at : AtRing ring Did old new) (s : EngineRecord) (kept : IsStillOut old s) → s.ring ≡ ring → kept.ring ≡ at.before
+  was : (Did : HandRing → HandRing → Type 0) (ring : ℕ) (at : AtRing ring Did old new) (s : RingRecord) (kept : IsStillOut old s) → s.ring ≡ ring → kept.ring ≡ at.before
   was Did ring at s kept same = some-same kept.ring at.before (sym kept.ring_is ∙ ap (slice_get old) same ∙ at.before_is)
 
-  now : (Did : HandRing → HandRing → Type 0) (ring : ℕ) (at : AtRing ring Did old new) (s : EngineRecord) (kept : IsStillOut new s) → s.ring ≡ ring → kept.ring ≡ at.after
+  now : (Did : HandRing → HandRing → Type 0) (ring : ℕ) (at : AtRing ring Did old new) (s : RingRecord) (kept : IsStillOut new s) → s.ring ≡ ring → kept.ring ≡ at.after
   now Did ring at s kept same = some-same kept.ring at.after (sym kept.ring_is ∙ ap (slice_get new) same ∙ ap (λ l. slice_get l ring) at.new_is ∙ here old ring at.before at.after at.before_is)
 
-  there-now : (Did : HandRing → HandRing → Type 0) (ring : ℕ) (at : AtRing ring Did old new) (s : EngineRecord) → s.ring ≡ ring → slice_get new s.ring ≡ Some at.after
+  there-now : (Did : HandRing → HandRing → Type 0) (ring : ℕ) (at : AtRing ring Did old new) (s : RingRecord) → s.ring ≡ ring → slice_get new s.ring ≡ Some at.after
   there-now Did ring at s same = ap (λ l. slice_get l s.ring) at.new_is ∙ ap (slice_get (set old ring at.after)) same ∙ here old ring at.before at.after at.before_is
 
   kept-at : (Did : HandRing → HandRing → Type 0) (At : ℕ → Type 0) (ring : ℕ) → ((b a : HandRing) → Did b a → StaysOut At b a) → AtRing ring Did old new
-      → (s : EngineRecord) → (s.ring ≡ ring → At s.reservation.hand) → IsStillOut old s → IsStillOut new s
+      → (s : RingRecord) → (s.ring ≡ ring → At s.reservation.hand) → IsStillOut old s → IsStillOut new s
   kept-at Did At ring stays at s where_at kept = elim (cases_eq s.ring ring) [
     | inl same ↦
         let before = own-hand at.before s.reservation kept.worker_is (subst (λ (v : HandRing). HasInHand v s.reservation.hand s.reservation.granted) (was Did ring at s kept same) kept.out) in
@@ -140,7 +140,7 @@ module _ (old new : List HandRing) where
 
   -- ---- reserve
 
-  pub reserve-keeps : (ring n flags : ℕ) (answer : Option EngineRecord) → ReserveAnswered ring n flags answer old new → (s : EngineRecord) → IsStillOut old s → IsStillOut new s
+  pub reserve-keeps : (ring n flags : ℕ) (answer : Option RingRecord) → ReserveAnswered ring n flags answer old new → (s : RingRecord) → IsStillOut old s → IsStillOut new s
   reserve-keeps ring n flags (Some r) led s = kept-at (AfterTurn (Grants n r.reservation)) Anywhere ring (granted n r.reservation) led.2 s (λ e. tt)
   reserve-keeps ring n flags None led s = by_flags (cases_eq flags 0)
     where
@@ -148,8 +148,8 @@ module _ (old new : List HandRing) where
       by_flags (inl none) = kept-at (IsRefused n) Anywhere ring (refused n) (led.0 none) s (λ e. tt)
       by_flags (inr some) = same-rings (led.1 some) s
 
-  pub reserve-kept : (ring n flags : ℕ) (answer : Option EngineRecord) → ReserveAnswered ring n flags answer old new
-      → IfSome answer (λ r. IsStillOut new r × ((s : EngineRecord) → IsStillOut old s → record_name s ≢ record_name r))
+  pub reserve-kept : (ring n flags : ℕ) (answer : Option RingRecord) → ReserveAnswered ring n flags answer old new
+      → IfSome answer (λ r. IsStillOut new r × ((s : RingRecord) → IsStillOut old s → record_name s ≢ record_name r))
   reserve-kept ring n flags None led = tt
   reserve-kept ring n flags (Some r) led =
       let at = led.2 in
@@ -165,14 +165,14 @@ module _ (old new : List HandRing) where
 
   -- ---- submit and discard
 
-  pub end-keeps : (how : RecordEnd) (owned : EngineRecord) (taken : Bool) → EndAnswered how owned taken old new → (s : EngineRecord) → IsStillOut old s → record_name s ≢ record_name owned → IsStillOut new s
+  pub end-keeps : (how : RecordEnd) (owned : RingRecord) (taken : Bool) → EndAnswered how owned taken old new → (s : RingRecord) → IsStillOut old s → record_name s ≢ record_name owned → IsStillOut new s
   end-keeps how owned true led s kept apart =
       let own = (led.exact.0 refl).worker_is in
       kept-at (EndsFromHand how owned.reservation.hand owned.reservation.granted) (ButAt owned.reservation.hand) owned.ring (λ b a did. ended how owned.reservation b a own did) (led.ends refl) s
       (λ ring place. apart (λ i. (ring i, place i))) kept
   end-keeps how owned false led s kept apart = same-rings (led.hands_back refl) s kept
 
-  pub end-frees : (how : RecordEnd) (owned : EngineRecord) (taken : Bool) → EndAnswered how owned taken old new → IsStillOut new owned → ⊥
+  pub end-frees : (how : RecordEnd) (owned : RingRecord) (taken : Bool) → EndAnswered how owned taken old new → IsStillOut new owned → ⊥
   end-frees how owned true led kept =
       let at = led.ends refl in
       let own = kept.worker_is in
@@ -183,7 +183,7 @@ module _ (old new : List HandRing) where
 
   -- ---- output and query
 
-  pub output-keeps : (ring : ℕ) (bytes : List ℕ) (flags : ℕ) (answer : ℤ) → OutputAnswered ring bytes flags answer old new → (s : EngineRecord) → IsStillOut old s → IsStillOut new s
+  pub output-keeps : (ring : ℕ) (bytes : List ℕ) (flags : ℕ) (answer : ℤ) → OutputAnswered ring bytes flags answer old new → (s : RingRecord) → IsStillOut old s → IsStillOut new s
   output-keeps ring bytes flags answer led s = by_answer led.answer_is.1
     where
       by_answer : (answer ≡ pos 0) ⊎ (answer ≡ negsuc 10) ⊎ (answer ≡ negsuc 21) → IsStillOut old s → IsStillOut new s
@@ -191,5 +191,5 @@ module _ (old new : List HandRing) where
       by_answer (inr (inl is)) = kept-at (IsNotSent (length bytes)) Anywhere ring (not-sent (length bytes)) (led.refused is) s (λ e. tt)
       by_answer (inr (inr is)) = same-rings (led.no_step is) s
 
-  pub query-keeps : (ring what answer : ℕ) → QueryAnswered ring what answer old new → (s : EngineRecord) → IsStillOut old s → IsStillOut new s
+  pub query-keeps : (ring what answer : ℕ) → QueryAnswered ring what answer old new → (s : RingRecord) → IsStillOut old s → IsStillOut new s
   query-keeps ring what answer led s = same-rings led.same s

@@ -7,10 +7,10 @@ use Rattle.rb_chapter_ring.specs.declared.record_end.RecordEnd.TheVariants as en
 use Rattle.rb_interp.specs.AnsweredCalls.{AnsweredCall, note_of}
 use Rattle.rb_interp.specs.declared.completed_call.Done.{Done}
 use Rattle.rb_engine.specs.EngineCalls.{CallsHelpers, CallsRings, EndAnswered, Leads, RingsLead, RunRings, has_number}
-use Rattle.rb_engine.specs.declared.engine_record.EngineRecord.{EngineRecord}
+use Rattle.rb_chapter_ring.specs.declared.ring_record.RingRecord.{RingRecord}
 use Rattle.rb_engine.specs.inner.Noting.{ended_call, ended_note, with_call}
 
-pub noted : (call : AnsweredCall EngineRecord) (old mid new : RunRings) → mid ≡ record old { rings = mid.rings } → CallsRings call old.rings mid.rings → 0 < old.room → new ≡ with_call mid (note_of call) → CallsHelpers call old new
+pub noted : (call : AnsweredCall RingRecord) (old mid new : RunRings) → mid ≡ record old { rings = mid.rings } → CallsRings call old.rings mid.rings → 0 < old.room → new ≡ with_call mid (note_of call) → CallsHelpers call old new
 noted call old mid new rest did room logged =
     let less : new.room ≡ mid.room - 1 = ap (λ (h : RunRings). h.room) logged in
     let same : mid.room ≡ old.room = ap (λ (h : RunRings). h.room) rest in
@@ -24,18 +24,18 @@ noted call old mid new rest did room logged =
 pub same-numbers : (old mid new : RunRings) (done : Done) → length mid.rings ≡ length old.rings → new ≡ with_call mid done → has_number new ≡ has_number old
 same-numbers old mid new done count logged = ap (λ n. λ ring. nat_lt ring n) (ap (λ (h : RunRings). length h.rings) logged ∙ count)
 
-pub one-call : (call : AnsweredCall EngineRecord) (old new : RunRings) → CallsHelpers call old new → Leads old (call ∷ []) new
+pub one-call : (call : AnsweredCall RingRecord) (old new : RunRings) → CallsHelpers call old new → Leads old (call ∷ []) new
 one-call call old new did = (new, did, refl)
 
-pub ended-rings : (how : RecordEnd) (owned : EngineRecord) (flags : ℕ) (taken : Bool) (old new : List HandRing) → EndAnswered how owned taken old new → CallsRings (ended_call how owned flags taken) old new
+pub ended-rings : (how : RecordEnd) (owned : RingRecord) (flags : ℕ) (taken : Bool) (old new : List HandRing) → EndAnswered how owned taken old new → CallsRings (ended_call how owned flags taken) old new
 ended-rings end.Submit owned flags taken old new did = did
 ended-rings end.Discard owned flags taken old new did = did
 
-pub ended-note : (how : RecordEnd) (owned : EngineRecord) (flags : ℕ) (taken : Bool) → ended_note how flags taken ≡ note_of (ended_call how owned flags taken)
+pub ended-note : (how : RecordEnd) (owned : RingRecord) (flags : ℕ) (taken : Bool) → ended_note how flags taken ≡ note_of (ended_call how owned flags taken)
 ended-note end.Submit owned flags taken = refl
 ended-note end.Discard owned flags taken = refl
 
-pub noted-end : (how : RecordEnd) (owned : EngineRecord) (flags : ℕ) (taken : Bool) (old mid new : RunRings) → mid ≡ record old { rings = mid.rings } → EndAnswered how owned taken old.rings mid.rings → 0 < old.room
+pub noted-end : (how : RecordEnd) (owned : RingRecord) (flags : ℕ) (taken : Bool) (old mid new : RunRings) → mid ≡ record old { rings = mid.rings } → EndAnswered how owned taken old.rings mid.rings → 0 < old.room
     → new ≡ with_call mid (ended_note how flags taken) → CallsHelpers (ended_call how owned flags taken) old new
 noted-end how owned flags taken old mid new rest did room logged =
     noted (ended_call how owned flags taken) old mid new rest (ended-rings how owned flags taken old.rings mid.rings did) room (subst (λ note. new ≡ with_call mid note) (ended-note how owned flags taken) logged)
@@ -73,7 +73,7 @@ same-count a b same = elim (cases_order a b) [
 ]
 
 -- the calls to the helpers are calls at the rings
-pub rings-led : (start now : RunRings) (calls : List (AnsweredCall EngineRecord)) → Leads start calls now → RingsLead start.rings calls now.rings
+pub rings-led : (start now : RunRings) (calls : List (AnsweredCall RingRecord)) → Leads start calls now → RingsLead start.rings calls now.rings
 rings-led start now [] led = ap (λ (h : RunRings). h.rings) led
 rings-led start now (call ∷ more) led = (led.0.rings, led.1.did, rings-led led.0 now more led.2)
 

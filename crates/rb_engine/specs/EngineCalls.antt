@@ -12,7 +12,7 @@ use Rattle.rb_interp.specs.AnsweredCalls.{AnsweredCall, Reserved, Submitted, Dis
 use Rattle.rb_interp.specs.declared.completed_call.Done.{Done}
 use Rattle.rb_engine.specs.RingCalls.{Grants, IsNotSent, IsRefused, Outputs}
 use Rattle.rb_engine.specs.RingTurns.{AfterTurn}
-use Rattle.rb_engine.specs.declared.engine_record.EngineRecord.{EngineRecord}
+use Rattle.rb_chapter_ring.specs.declared.ring_record.RingRecord.{RingRecord}
 
 -- ---- one of several rings
 
@@ -31,26 +31,26 @@ pub record OfRing (ring : ℕ) (Holds : HandRing → Type 0) (rings : List HandR
   pub holds : Holds asked
 
 -- the record is in its hand at its ring, and was granted to worker 0, the engine
-pub record IsStillOut (rings : List HandRing) (r : EngineRecord) : Type 0 where
+pub record IsStillOut (rings : List HandRing) (r : RingRecord) : Type 0 where
   pub ring : HandRing
   pub ring_is : slice_get rings r.ring ≡ Some ring
   pub worker_is : r.reservation.granted.worker ≡ 0
   pub out : HasInHand ring r.reservation.hand r.reservation.granted
 
 -- the name of a record: the number of its ring, and its hand there
-abbrev pub record_name : EngineRecord → ℕ × ℕ
+abbrev pub record_name : RingRecord → ℕ × ℕ
 record_name r = (r.ring, r.reservation.hand)
 
 -- ---- the calls
 
 -- A reserve returned a record of this ring, or null. With flags other than 0 it returned null, and nothing changed.
-abbrev pub ReserveAnswered : (ring n flags : ℕ) → Option EngineRecord → List HandRing → List HandRing → Type 0
+abbrev pub ReserveAnswered : (ring n flags : ℕ) → Option RingRecord → List HandRing → List HandRing → Type 0
 ReserveAnswered ring n flags (Some r) old new = (flags ≡ 0) × (r.ring ≡ ring) × AtRing ring (AfterTurn (Grants n r.reservation)) old new
 ReserveAnswered ring n flags None old new = (flags ≡ 0 → AtRing ring (IsRefused n) old new) × (flags ≢ 0 → new ≡ old)
 
 -- A submit or discard took the record if and only if the record is in its hand at its ring, and ended it there.
 -- Otherwise nothing changed.
-pub record EndAnswered (how : RecordEnd) (r : EngineRecord) (taken : Bool) (old new : List HandRing) : Type 0 where
+pub record EndAnswered (how : RecordEnd) (r : RingRecord) (taken : Bool) (old new : List HandRing) : Type 0 where
   pub exact : (taken ≡ true) ↔ IsStillOut old r
   pub ends : taken ≡ true → AtRing r.ring (EndsFromHand how r.reservation.hand r.reservation.granted) old new
   pub hands_back : taken ≡ false → new ≡ old
@@ -68,7 +68,7 @@ pub record QueryAnswered (ring what answer : ℕ) (old new : List HandRing) : Ty
   pub same : new ≡ old
 
 -- the call was made at the rings, with its answer
-abbrev pub CallsRings : AnsweredCall EngineRecord → List HandRing → List HandRing → Type 0
+abbrev pub CallsRings : AnsweredCall RingRecord → List HandRing → List HandRing → Type 0
 CallsRings (Reserved ring n flags answer) old new = ReserveAnswered ring n flags answer old new
 CallsRings (Submitted r flags taken) old new = EndAnswered end.Submit r taken old new
 CallsRings (Discarded r flags taken) old new = EndAnswered end.Discard r taken old new
@@ -76,7 +76,7 @@ CallsRings (SentOut ring bytes flags answer) old new = OutputAnswered ring bytes
 CallsRings (Queried ring what answer) old new = QueryAnswered ring what answer old new
 
 -- these calls, the oldest first, lead from the first state of the rings to the second
-abbrev pub RingsLead : List HandRing → List (AnsweredCall EngineRecord) → List HandRing → Type 0
+abbrev pub RingsLead : List HandRing → List (AnsweredCall RingRecord) → List HandRing → Type 0
 RingsLead old [] new = new ≡ old
 RingsLead old (call ∷ more) new = (mid : List HandRing) × CallsRings call old mid × RingsLead mid more new
 
@@ -93,11 +93,11 @@ abbrev pub has_number : RunRings → ℕ → Bool
 has_number h ring = nat_lt ring (length h.rings)
 
 -- one call was made at one of the rings, and appended to the trace with its answer
-pub record CallsHelpers (call : AnsweredCall EngineRecord) (old new : RunRings) : Type 0 where
+pub record CallsHelpers (call : AnsweredCall RingRecord) (old new : RunRings) : Type 0 where
   pub trace_is : new.trace ≡ old.trace ++ note_of call ∷ []
   pub room_is : new.room + 1 ≡ old.room
   pub did : CallsRings call old.rings new.rings
 
-abbrev pub Leads : RunRings → List (AnsweredCall EngineRecord) → RunRings → Type 0
+abbrev pub Leads : RunRings → List (AnsweredCall RingRecord) → RunRings → Type 0
 Leads start [] now = now ≡ start
 Leads start (call ∷ more) now = (mid : RunRings) × CallsHelpers call start mid × Leads mid more now

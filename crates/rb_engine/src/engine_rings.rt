@@ -13,9 +13,8 @@ ghost use Rattle.rb_history.specs.declared.entries.Entry.{Entry};
 ghost use Rattle.rb_engine.specs.RingTurns.{AfterTurn};
 ghost use Rattle.rb_engine.specs.inner.Noting.{ended_call, ended_note, with_call};
 
-use crate::engine_record::EngineRecord;
 use crate::engine_ring::{EngineRing, NotSent};
-use rb_chapter_ring::RecordEnd;
+use rb_chapter_ring::{RecordEnd, RingRecord};
 use rb_history::{Counts, KNOWN_FLAGS, Notice, Taken};
 use rb_interp::{Done, EAGAIN, EINVAL, Helpers};
 use std::alloc::{AllocError, Global};
@@ -140,7 +139,7 @@ impl EngineRings {
     }
 
     // Reserves a record. Does not append the call to the trace.
-    fn try_reserve(&mut self, ring: u32, n: u32, flags: u64) -> Option<EngineRecord>
+    fn try_reserve(&mut self, ring: u32, n: u32, flags: u64) -> Option<RingRecord>
         requires ring { has_number self.old ring ≡ true }
         ensures rest { self.new ≡ record self.old { rings = self.new.rings } }
         ensures count { length self.new.rings ≡ length self.old.rings }
@@ -153,7 +152,7 @@ impl EngineRings {
         let Some(reservation) = self.rings[ring as usize].reserve(self.alloc, n) else {
             return None;
         };
-        Some(EngineRecord { ring, reservation })
+        Some(RingRecord { ring, reservation })
     }
 
     // Outputs bytes. Does not append the call to the trace.
@@ -176,12 +175,7 @@ impl EngineRings {
 
     // Submits or discards a record, or returns it if it is in no hand of its ring. Does not append the call to the
     // trace.
-    fn try_end(
-        &mut self,
-        owned: EngineRecord,
-        end: RecordEnd,
-        flags: u64,
-    ) -> Result<(), EngineRecord>
+    fn try_end(&mut self, owned: RingRecord, end: RecordEnd, flags: u64) -> Result<(), RingRecord>
         ensures rest { self.new ≡ record self.old { rings = self.new.rings } }
         ensures count { length self.new.rings ≡ length self.old.rings }
         ensures answered { EndAnswered end owned (is_ok result) self.old.rings self.new.rings }
@@ -199,7 +193,7 @@ impl EngineRings {
     }
 
     // Submits or discards a record, or returns it, and appends the call to the trace.
-    fn end(&mut self, owned: EngineRecord, how: RecordEnd, flags: u64) -> Result<(), EngineRecord>
+    fn end(&mut self, owned: RingRecord, how: RecordEnd, flags: u64) -> Result<(), RingRecord>
         requires room { 0 < self.old.room }
         ensures trace { self.new.trace ≡ self.old.trace ++ ended_note how flags (is_ok result) ∷ [] }
         ensures room { self.new.room + 1 ≡ self.old.room }
@@ -234,7 +228,7 @@ impl Helpers for EngineRings {
     ghost use Rattle.rb_engine.specs.EngineCalls.{IsStillOut, Leads, has_number, record_name};
     ghost use Rattle.rb_engine.specs.inner.Chains.{called_on, kept_written, none_called};
 
-    type Record = EngineRecord;
+    type Record = RingRecord;
 
     ghost trace_of = { λ h. h.trace };
 
@@ -261,7 +255,7 @@ impl Helpers for EngineRings {
     /// Returns a record of `n` zero bytes, or `None`, which is null to the program: if the flags are not 0, if the ring
     /// or its chapter has no room, if none of the four hands is free, or if memory for more than 16 bytes can't be
     /// allocated.
-    fn reserve(&mut self, ring: u32, n: u32, flags: u64) -> Option<EngineRecord>
+    fn reserve(&mut self, ring: u32, n: u32, flags: u64) -> Option<RingRecord>
         requires room { 0 < self.old.room }
         requires ring { has_number self.old ring ≡ true }
         ensures trace { self.new.trace ≡ self.old.trace ++ Reserve ring n flags (is_some result) ∷ [] }
@@ -282,7 +276,7 @@ impl Helpers for EngineRings {
     }
 
     /// Submits the record if it is in a hand of its ring, and returns any other.
-    fn submit(&mut self, owned: EngineRecord, flags: u64) -> Result<(), EngineRecord>
+    fn submit(&mut self, owned: RingRecord, flags: u64) -> Result<(), RingRecord>
         requires room { 0 < self.old.room }
         ensures trace { self.new.trace ≡ self.old.trace ++ Submit flags (is_ok result) ∷ [] }
         ensures room { self.new.room + 1 ≡ self.old.room }
@@ -295,7 +289,7 @@ impl Helpers for EngineRings {
     }
 
     /// Discards the record if it is in a hand of its ring, and returns any other.
-    fn discard(&mut self, owned: EngineRecord, flags: u64) -> Result<(), EngineRecord>
+    fn discard(&mut self, owned: RingRecord, flags: u64) -> Result<(), RingRecord>
         requires room { 0 < self.old.room }
         ensures trace { self.new.trace ≡ self.old.trace ++ Discard flags (is_ok result) ∷ [] }
         ensures room { self.new.room + 1 ≡ self.old.room }

@@ -6,7 +6,6 @@
 #![tactic(auto)]
 
 mod engine;
-mod engine_record;
 mod engine_ring;
 mod engine_rings;
 

@@ -35,7 +35,7 @@ impl<W> Model for Buffered<W> {
 }
 
 impl<W: Write> Buffered<W> {
-    ghost use Rattle.std.specs.Prelude.{◌≡◌, ◌≤◌, ◌+◌, ◌++◌, [], IfOk, OnOk, is_ok, length};
+    ghost use Rattle.std.specs.Prelude.{◌≡◌, ◌≤◌, ◌+◌, ◌++◌, [], IfErr, IfOk, OnOk, is_ok, length};
     ghost use Rattle.std.specs.Io.KnownBytes.{Keeps, WriteAppends, append_known};
     ghost use Rattle.rb_io.specs.Gathered.{HandsOn};
 
@@ -46,13 +46,27 @@ impl<W: Write> Buffered<W> {
         ensures writer { IfOk result (λ b. b.writer ≡ writer) }
         ensures empty { IfOk result (λ b. b.waiting ≡ []) }
     {
+        match Buffered::over(alloc, writer) {
+            Ok(buffered) => Ok(buffered),
+            Err(_) => Err(AllocError),
+        }
+    }
+
+    /// Returns an empty buffer over the writer, or the writer itself if memory for the buffer can't be allocated.
+    pub fn over(alloc: Global, writer: W) -> Result<Buffered<W>, W>
+        ensures writer { IfOk result (λ b. b.writer ≡ writer) }
+        ensures empty { IfOk result (λ b. b.waiting ≡ []) }
+        ensures given_back { IfErr result (λ same. same ≡ writer) }
+    {
         let mut room = Vec::new(alloc);
-        room.resize(CAPACITY, 0)?;
-        Ok(Buffered {
-            writer,
-            room,
-            count: 0,
-        })
+        match room.resize(CAPACITY, 0) {
+            Ok(()) => Ok(Buffered {
+                writer,
+                room,
+                count: 0,
+            }),
+            Err(_) => Err(writer),
+        }
     }
 
     /// Returns the underlying writer. The waiting bytes are lost.

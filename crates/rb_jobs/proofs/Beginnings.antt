@@ -18,7 +18,7 @@ use Rattle.rb_ledger.specs.RecordEnds.{EndsAt}
 use Rattle.rb_ledger.proofs.Beginnings.{begins_with_all, begins_through, logged_begins, same_begins, call_begins}
 use Rattle.rb_shared_ring.specs.SharedCalls.{RefusesInRoom, ReservesInRoom, OutputsInRoom}
 use Rattle.rb_interp.specs.AnsweredCalls.{AnsweredCall, Reserved, Submitted, Discarded, SentOut, Queried}
-use Rattle.rb_jobs.specs.declared.seat_record.SeatRecord.{SeatRecord}
+use Rattle.rb_chapter_ring.specs.declared.ring_record.RingRecord.{RingRecord}
 use Rattle.rb_jobs.specs.SeatCalls.{AtSeat, CallsSeats, OutputAnswered, RecordAnswered, SeatCallsRing, SeatIsRefused, SeatOutputs, NoHandOrSheet, HasNoSheet, ReserveAnswered, notice_of}
 use Rattle.rb_jobs.specs.SeatLaws.{SeatsGoOn, SeatBegins}
 use Rattle.rb_jobs.specs.inner.RecordEnds.{SeatEnds, ended_call}
@@ -89,7 +89,7 @@ record_begins : (ring : ℕ) (taken due : Bool) (Did : WorkerSeat → WorkerSeat
 record_begins ring taken due Did old new begins answered (inl below) = begins_at ring Did old new begins (answered.at_ring below)
 record_begins ring taken due Did old new begins answered (inr beyond) = begins_nowhere old new (answered.no_ring beyond).2
 
-reserve_begins : (ring n flags : ℕ) (answer : Option SeatRecord) (unlogged : ℕ) (old new : List WorkerSeat) → ReserveAnswered ring n flags answer unlogged old new → (0 < flags) ⊎ (flags ≤ 0) → AllZip SeatBegins old new
+reserve_begins : (ring n flags : ℕ) (answer : Option RingRecord) (unlogged : ℕ) (old new : List WorkerSeat) → ReserveAnswered ring n flags answer unlogged old new → (0 < flags) ⊎ (flags ≤ 0) → AllZip SeatBegins old new
 reserve_begins ring n flags (Some r) unlogged old new led flagged =
     begins_at ring _ old new
     (λ b a did. seat_begins b a _ did.0 (ring_grants b.room a.cut b.worker n r.reservation.granted)) led.3
@@ -103,13 +103,13 @@ output_begins ring bytes flags answer due unlogged old new led (inl is) =
 output_begins ring bytes flags answer due unlogged old new led (inr (inl is)) = begins_at ring _ old new (refused_begins (HasNoSheet (length bytes)) (length bytes) unlogged) (led.refused is).0
 output_begins ring bytes flags answer due unlogged old new led (inr (inr is)) = begins_nowhere old new (led.no_step is).0
 
-end_goes_on : (end : RecordEnd) (owned : SeatRecord) (flags : ℕ) (taken due : Bool) (unlogged : ℕ) (old new : List WorkerSeat) → CallsSeats (ended_call end owned flags taken) due unlogged old new → AllZip SeatBegins old new
+end_goes_on : (end : RecordEnd) (owned : RingRecord) (flags : ℕ) (taken due : Bool) (unlogged : ℕ) (old new : List WorkerSeat) → CallsSeats (ended_call end owned flags taken) due unlogged old new → AllZip SeatBegins old new
 end_goes_on end owned flags taken due unlogged old new led =
     record_begins owned.ring taken due (SeatEnds end owned.reservation flags taken due) old new
     (end_begins end owned.reservation flags taken due)
     (ended_of owned flags taken due unlogged old new end led).0 (cases_lt owned.ring (length old))
 
-call_goes_on : (call : AnsweredCall SeatRecord) (due : Bool) (unlogged : ℕ) (old new : List WorkerSeat) → CallsSeats call due unlogged old new → AllZip SeatBegins old new
+call_goes_on : (call : AnsweredCall RingRecord) (due : Bool) (unlogged : ℕ) (old new : List WorkerSeat) → CallsSeats call due unlogged old new → AllZip SeatBegins old new
 call_goes_on (Reserved ring n flags answer) due unlogged old new led = reserve_begins ring n flags answer unlogged old new led.0 (cases_lt 0 flags)
 call_goes_on (Submitted owned flags taken) due unlogged old new led = end_goes_on Submit owned flags taken due unlogged old new led
 call_goes_on (Discarded owned flags taken) due unlogged old new led = end_goes_on Discard owned flags taken due unlogged old new led

@@ -11,8 +11,8 @@ use Rattle.rb_interp.specs.RunTraces.{RunMatches, TellsLength, TraceBalances}
 use Rattle.rb_ledger.specs.Seats.{Shared, WorkerSeat}
 use Rattle.rb_verifier.specs.Subject.{call_count, calls}
 use Rattle.rb_verifier.proofs.Counting.{count-units_of}
-use Rattle.rb_jobs.specs.declared.seat_record.SeatRecord.{SeatRecord}
-use Rattle.rb_jobs.specs.SeatRecords.{reserved_bytes, with_record_bytes}
+use Rattle.rb_chapter_ring.specs.declared.ring_record.RingRecord.{RingRecord}
+use Rattle.rb_chapter_ring.specs.RingRecords.{reserved_bytes, with_record_bytes}
 use Rattle.rb_jobs.specs.SeatHelpers.{AtSeats, Leads, SeatsLead}
 use Rattle.rb_jobs.proofs.Leading.{all_may_answer, leads_seats}
 use Rattle.rb_jobs.proofs.Totals.{totals_rise}
@@ -20,7 +20,7 @@ use Rattle.rb_jobs.specs.declared.job.JobAnswer.{JobAnswer}
 use Rattle.rb_jobs.specs.Jobs.{Task, JobRan, JobRanCounted, counted_on}
 
 -- the calls led from the old state of the seats to the new one
-abbrev ran_by : (task : Task) (answer : JobAnswer) (calls : List (AnsweredCall SeatRecord)) (old new : List WorkerSeat)
+abbrev ran_by : (task : Task) (answer : JobAnswer) (calls : List (AnsweredCall RingRecord)) (old new : List WorkerSeat)
     → TellsLength task.program task.context answer.result → RunMatches reserved_bytes with_record_bytes task.program task.context calls answer.result
     → answer.result ≢ Err Stray → OnOk answer.result (TraceBalances [] (notes_of calls)) → SeatsLead old calls answer.unlogged new → JobRan task answer old new
 ran_by task answer calls old new told shows kept balanced led =
@@ -41,7 +41,7 @@ ran_by task answer calls old new told shows kept balanced led =
     }
 
 -- the helpers were new, and are in this state after the run
-pub did_counted : (task : Task) (answer : JobAnswer) (calls : List (AnsweredCall SeatRecord)) (start now : AtSeats) (rings : List Shared) (room : ℕ)
+pub did_counted : (task : Task) (answer : JobAnswer) (calls : List (AnsweredCall RingRecord)) (start now : AtSeats) (rings : List Shared) (room : ℕ)
     (old new : List WorkerSeat) (before mid after : ℕ) → start ≡ record { rings = rings; seats = old; trace = []; room = room; unlogged = 0 }
     → answer.unlogged ≡ now.unlogged → new ≡ now.seats → mid ≡ before → after ≡ counted_on mid (length now.trace)
     → TellsLength task.program task.context answer.result → RunMatches reserved_bytes with_record_bytes task.program task.context calls answer.result
@@ -62,7 +62,7 @@ did_counted task answer calls start now rings room old new before mid after fres
     )
 
 -- each call is appended to the trace and uses one place of the room
-calls_take_room : (start now : AtSeats) (calls : List (AnsweredCall SeatRecord)) → Leads start calls now → length now.trace + now.room ≡ length start.trace + start.room
+calls_take_room : (start now : AtSeats) (calls : List (AnsweredCall RingRecord)) → Leads start calls now → length now.trace + now.room ≡ length start.trace + start.room
 calls_take_room start now [] same = ap (λ (h : AtSeats). length h.trace + h.room) same
 calls_take_room start now (call ∷ more) leads =
     let mid = leads.0 in
@@ -77,7 +77,7 @@ calls_within : (program : List Insn) → call_count program ≤ unit_count progr
 calls_within program = let e = count-units_of program in let few = count_by-le-length calls (units_of program) in omega (arith, e, few)
 
 -- a job leaves at most as many failures unlogged as a program has units
-pub few_unlogged : (start now : AtSeats) (calls : List (AnsweredCall SeatRecord)) (program : List Insn) (rings : List Shared) (seats : List WorkerSeat) (unlogged : ℕ)
+pub few_unlogged : (start now : AtSeats) (calls : List (AnsweredCall RingRecord)) (program : List Insn) (rings : List Shared) (seats : List WorkerSeat) (unlogged : ℕ)
     → start ≡ record { rings = rings; seats = seats; trace = []; room = call_count program; unlogged = 0 } → Leads start calls now → unlogged ≤ length now.trace → unit_count program ≤ 4096
     → unlogged ≤ 4096
 few_unlogged start now calls program rings seats unlogged fresh leads within long =

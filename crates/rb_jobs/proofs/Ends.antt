@@ -5,12 +5,12 @@ use Rattle.rb_chapter_ring.specs.declared.record_end.RecordEnd.{RecordEnd}
 use Rattle.rb_chapter_ring.specs.declared.record_end.RecordEnd.TheVariants.{Submit, Discard}
 use Rattle.rb_ledger.specs.Seats.{WorkerSeat}
 use Rattle.rb_interp.specs.AnsweredCalls.{note_of}
-use Rattle.rb_jobs.specs.declared.seat_record.SeatRecord.{SeatRecord}
+use Rattle.rb_chapter_ring.specs.declared.ring_record.RingRecord.{RingRecord}
 use Rattle.rb_jobs.specs.SeatCalls.{CallsSeats, RecordAnswered, SeatSubmits, SeatDiscards}
 use Rattle.rb_jobs.specs.inner.RecordEnds.{SeatEnds, ended_call, ended_note}
 use Rattle.rb_jobs.proofs.OneSeat.{at_seat_as}
 
-pub is_note : (end : RecordEnd) (owned : SeatRecord) (flags : ℕ) (taken : Bool) → ended_note end flags taken ≡ note_of (ended_call end owned flags taken)
+pub is_note : (end : RecordEnd) (owned : RingRecord) (flags : ℕ) (taken : Bool) → ended_note end flags taken ≡ note_of (ended_call end owned flags taken)
 is_note Submit owned flags taken = refl
 is_note Discard owned flags taken = refl
 
@@ -32,7 +32,7 @@ module _ (r : HandGranted) (flags : ℕ) (taken due : Bool) (b a : WorkerSeat) w
   ends_discard : SeatEnds Discard r flags taken due b a → SeatDiscards r flags taken due b a
   ends_discard did = record { exact = did.exact; takes = did.takes; hands_back = did.hands_back }
 
-module _ (owned : SeatRecord) (flags : ℕ) (taken due : Bool) (unlogged : ℕ) (old new : List WorkerSeat) where
+module _ (owned : RingRecord) (flags : ℕ) (taken due : Bool) (unlogged : ℕ) (old new : List WorkerSeat) where
   -- what the seats did, by the kind of end
   abbrev pub Ended : RecordEnd → Type 0
   Ended end = RecordAnswered owned.ring taken due (SeatEnds end owned.reservation flags taken due) old new × (unlogged ≡ 0)

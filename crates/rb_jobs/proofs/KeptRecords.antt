@@ -9,7 +9,7 @@ use Rattle.rb_chapter_ring.specs.Hands.{Hands, out_record, in_hand}
 use Rattle.rb_chapter_ring.specs.HandGranted.{HandGranted}
 use Rattle.rb_chapter_ring.specs.declared.record_end.RecordEnd.{RecordEnd}
 use Rattle.rb_interp.specs.AnsweredCalls.{Reserved, SentOut, Queried}
-use Rattle.rb_jobs.specs.declared.seat_record.SeatRecord.{SeatRecord}
+use Rattle.rb_chapter_ring.specs.declared.ring_record.RingRecord.{RingRecord}
 use Rattle.rb_jobs.specs.SeatCalls.{AtSeat, IsOutAtSeat, SeatQueries, SeatIsGranted, SeatIsRefused, SeatOutputs, NoHandOrSheet, HasNoSheet, ReserveAnswered, RecordAnswered, OutputAnswered}
 use Rattle.rb_jobs.specs.SeatHelpers.{AtSeats, CallsHelpers}
 use Rattle.rb_jobs.specs.KeptRecords.{IsStillOut, record_name}
@@ -125,18 +125,18 @@ let-go end r flags false due b a did out = true-false (sym (did.exact.1 (subst (
 -- ---- all seats
 
 module _ (old new : AtSeats) where
-  same-seats : new.seats ≡ old.seats → (s : SeatRecord) → IsStillOut old s → IsStillOut new s
+  same-seats : new.seats ≡ old.seats → (s : RingRecord) → IsStillOut old s → IsStillOut new s
   same-seats same s kept = record { seat = kept.seat; seat_is = ap (λ l. slice_get l s.ring) same ∙ kept.seat_is; out = kept.out }
 
   -- the seat of a kept record is the one at its ring
-  was : (Did : WorkerSeat → WorkerSeat → Type 0) (ring : ℕ) (at : AtSeat ring Did old.seats new.seats) (s : SeatRecord) (kept : IsStillOut old s) → s.ring ≡ ring → kept.seat ≡ at.before
+  was : (Did : WorkerSeat → WorkerSeat → Type 0) (ring : ℕ) (at : AtSeat ring Did old.seats new.seats) (s : RingRecord) (kept : IsStillOut old s) → s.ring ≡ ring → kept.seat ≡ at.before
   was Did ring at s kept same = some-same kept.seat at.before (sym kept.seat_is ∙ ap (slice_get old.seats) same ∙ at.before_is)
 
-  now : (Did : WorkerSeat → WorkerSeat → Type 0) (ring : ℕ) (at : AtSeat ring Did old.seats new.seats) (s : SeatRecord) (kept : IsStillOut new s) → s.ring ≡ ring → kept.seat ≡ at.after
+  now : (Did : WorkerSeat → WorkerSeat → Type 0) (ring : ℕ) (at : AtSeat ring Did old.seats new.seats) (s : RingRecord) (kept : IsStillOut new s) → s.ring ≡ ring → kept.seat ≡ at.after
   now Did ring at s kept same = some-same kept.seat at.after (sym kept.seat_is ∙ ap (slice_get new.seats) same ∙ ap (λ l. slice_get l ring) at.new_is ∙ here old.seats ring at.before at.after at.before_is)
 
   kept-at : (Did : WorkerSeat → WorkerSeat → Type 0) (At : ℕ → Type 0) (ring : ℕ) → ((b a : WorkerSeat) → Did b a → StaysOut At b a) → AtSeat ring Did old.seats new.seats
-      → (s : SeatRecord) → (s.ring ≡ ring → At s.reservation.hand) → IsStillOut old s → IsStillOut new s
+      → (s : RingRecord) → (s.ring ≡ ring → At s.reservation.hand) → IsStillOut old s → IsStillOut new s
   kept-at Did At ring stays at s where_at kept = elim (cases_eq s.ring ring) [
     | inl same ↦ record {
       seat = at.after;
@@ -151,7 +151,7 @@ module _ (old new : AtSeats) where
   zero-or : (flags : ℕ) → (flags ≡ 0) ⊎ (flags ≢ 0)
   zero-or flags = cases_eq flags 0
 
-  reserve-keeps : (ring n flags : ℕ) (answer : Option SeatRecord) (unlogged : ℕ) → ReserveAnswered ring n flags answer unlogged old.seats new.seats → (s : SeatRecord) → IsStillOut old s → IsStillOut new s
+  reserve-keeps : (ring n flags : ℕ) (answer : Option RingRecord) (unlogged : ℕ) → ReserveAnswered ring n flags answer unlogged old.seats new.seats → (s : RingRecord) → IsStillOut old s → IsStillOut new s
   reserve-keeps ring n flags (Some r) unlogged led s = kept-at (SeatIsGranted n r.reservation) Anywhere ring (granted n r.reservation) led.3 s (λ e. tt)
   reserve-keeps ring n flags None unlogged led s = by_flags (zero-or flags)
     where
@@ -159,8 +159,8 @@ module _ (old new : AtSeats) where
       by_flags (inl none) = kept-at (SeatIsRefused (NoHandOrSheet n) n unlogged) Anywhere ring (refused (NoHandOrSheet n) n unlogged) (led.0 none) s (λ e. tt)
       by_flags (inr some) = same-seats (led.1 some).0 s
 
-  reserve-kept : (ring n flags : ℕ) (answer : Option SeatRecord) (unlogged : ℕ) → ReserveAnswered ring n flags answer unlogged old.seats new.seats
-      → IfSome answer (λ r. IsStillOut new r × ((s : SeatRecord) → IsStillOut old s → record_name s ≢ record_name r))
+  reserve-kept : (ring n flags : ℕ) (answer : Option RingRecord) (unlogged : ℕ) → ReserveAnswered ring n flags answer unlogged old.seats new.seats
+      → IfSome answer (λ r. IsStillOut new r × ((s : RingRecord) → IsStillOut old s → record_name s ≢ record_name r))
   reserve-kept ring n flags None unlogged led = tt
   reserve-kept ring n flags (Some r) unlogged led =
       let at = led.3 in (
@@ -177,30 +177,30 @@ module _ (old new : AtSeats) where
 
   -- ---- submit and discard
 
-  elsewhere : (s owned : SeatRecord) → record_name s ≢ record_name owned → s.ring ≡ owned.ring → ButAt owned.reservation.hand s.reservation.hand
+  elsewhere : (s owned : RingRecord) → record_name s ≢ record_name owned → s.ring ≡ owned.ring → ButAt owned.reservation.hand s.reservation.hand
   elsewhere s owned apart ring place = apart (λ i. (ring i, place i))
 
-  end-keeps : (end : RecordEnd) (owned : SeatRecord) (flags : ℕ) (taken due : Bool) → RecordAnswered owned.ring taken due (SeatEnds end owned.reservation flags taken due) old.seats new.seats
-      → (s : SeatRecord) → IsStillOut old s → record_name s ≢ record_name owned → IsStillOut new s
+  end-keeps : (end : RecordEnd) (owned : RingRecord) (flags : ℕ) (taken due : Bool) → RecordAnswered owned.ring taken due (SeatEnds end owned.reservation flags taken due) old.seats new.seats
+      → (s : RingRecord) → IsStillOut old s → record_name s ≢ record_name owned → IsStillOut new s
   end-keeps end owned flags taken due led s kept apart = elim (cases_lt owned.ring (length old.seats)) [
     | inl below ↦ kept-at (SeatEnds end owned.reservation flags taken due) (ButAt owned.reservation.hand) owned.ring
         (given-back end owned.reservation flags taken due) (led.at_ring below) s (elsewhere s owned apart) kept
     | inr beyond ↦ same-seats (led.no_ring beyond).2 s kept
   ]
 
-  kept-out : (Did : WorkerSeat → WorkerSeat → Type 0) (owned : SeatRecord) (kept : IsStillOut old owned) (at : AtSeat owned.ring Did old.seats new.seats) → IsOutAtSeat at.before owned.reservation
+  kept-out : (Did : WorkerSeat → WorkerSeat → Type 0) (owned : RingRecord) (kept : IsStillOut old owned) (at : AtSeat owned.ring Did old.seats new.seats) → IsOutAtSeat at.before owned.reservation
   kept-out Did owned kept at = subst (λ (x : WorkerSeat). IsOutAtSeat x owned.reservation) (was Did owned.ring at owned kept refl) kept.out
 
-  end-never-back : (end : RecordEnd) (owned : SeatRecord) (flags : ℕ) (taken due : Bool) → RecordAnswered owned.ring taken due (SeatEnds end owned.reservation flags taken due) old.seats new.seats → IsStillOut old owned → taken ≡ true
+  end-never-back : (end : RecordEnd) (owned : RingRecord) (flags : ℕ) (taken due : Bool) → RecordAnswered owned.ring taken due (SeatEnds end owned.reservation flags taken due) old.seats new.seats → IsStillOut old owned → taken ≡ true
   end-never-back end owned flags taken due led kept =
       let at = led.at_ring (some-below old.seats owned.ring kept.seat kept.seat_is) in
       at.did.exact.1 (kept-out (SeatEnds end owned.reservation flags taken due) owned kept at)
 
   -- a seat that is there after a call was there before it
-  ring-there : (owned : SeatRecord) → new.seats ≡ old.seats → length old.seats ≤ owned.ring → IsStillOut new owned → ⊥
+  ring-there : (owned : RingRecord) → new.seats ≡ old.seats → length old.seats ≤ owned.ring → IsStillOut new owned → ⊥
   ring-there owned same beyond kept = let below : owned.ring < length old.seats = subst (λ (l : List WorkerSeat). owned.ring < length l) same (some-below new.seats owned.ring kept.seat kept.seat_is) in absurd (omega (arith, below, beyond))
 
-  end-frees : (end : RecordEnd) (owned : SeatRecord) (flags : ℕ) (taken due : Bool) → RecordAnswered owned.ring taken due (SeatEnds end owned.reservation flags taken due) old.seats new.seats → IsStillOut new owned → ⊥
+  end-frees : (end : RecordEnd) (owned : RingRecord) (flags : ℕ) (taken due : Bool) → RecordAnswered owned.ring taken due (SeatEnds end owned.reservation flags taken due) old.seats new.seats → IsStillOut new owned → ⊥
   end-frees end owned flags taken due led kept = elim (cases_lt owned.ring (length old.seats)) [
     | inl below ↦
         let at = led.at_ring below in
@@ -212,35 +212,35 @@ module _ (old new : AtSeats) where
   -- ---- output and query
 
   output-keeps : (ring : ℕ) (bytes : List ℕ) (flags : ℕ) (answer : ℤ) (due : Bool) (unlogged : ℕ) → OutputAnswered ring bytes flags answer due unlogged old.seats new.seats → (answer ≡ pos 0) ⊎ (answer ≡ negsuc 10) ⊎ (answer ≡ negsuc 21)
-      → (s : SeatRecord) → IsStillOut old s → IsStillOut new s
+      → (s : RingRecord) → IsStillOut old s → IsStillOut new s
   output-keeps ring bytes flags answer due unlogged led (inl is) s = kept-at (SeatOutputs bytes flags due) Anywhere ring (sent bytes flags due) (led.sent is).0 s (λ e. tt)
   output-keeps ring bytes flags answer due unlogged led (inr (inl is)) s = kept-at (SeatIsRefused (HasNoSheet (length bytes)) (length bytes) unlogged) Anywhere ring (refused (HasNoSheet (length bytes)) (length bytes) unlogged) (led.refused is).0 s (λ e. tt)
   output-keeps ring bytes flags answer due unlogged led (inr (inr is)) s = same-seats (led.no_step is).0 s
 
-  query-keeps : (ring what answer : ℕ) → AtSeat ring (SeatQueries what answer) old.seats new.seats → (s : SeatRecord) → IsStillOut old s → IsStillOut new s
+  query-keeps : (ring what answer : ℕ) → AtSeat ring (SeatQueries what answer) old.seats new.seats → (s : RingRecord) → IsStillOut old s → IsStillOut new s
   query-keeps ring what answer at s = kept-at (SeatQueries what answer) Anywhere ring (queried what answer) at s (λ e. tt)
 
 -- ---- by the helpers' calls
 
 module _ (old new : AtSeats) where
-  pub reserved-keeps : (ring n flags : ℕ) (answer : Option SeatRecord) → CallsHelpers (Reserved ring n flags answer) old new → (s : SeatRecord) → IsStillOut old s → IsStillOut new s
+  pub reserved-keeps : (ring n flags : ℕ) (answer : Option RingRecord) → CallsHelpers (Reserved ring n flags answer) old new → (s : RingRecord) → IsStillOut old s → IsStillOut new s
   reserved-keeps ring n flags answer call = reserve-keeps old new ring n flags answer call.unlogged call.seats.0
 
-  pub reserved-kept : (ring n flags : ℕ) (answer : Option SeatRecord) → CallsHelpers (Reserved ring n flags answer) old new
-      → IfSome answer (λ r. IsStillOut new r × ((s : SeatRecord) → IsStillOut old s → record_name s ≢ record_name r))
+  pub reserved-kept : (ring n flags : ℕ) (answer : Option RingRecord) → CallsHelpers (Reserved ring n flags answer) old new
+      → IfSome answer (λ r. IsStillOut new r × ((s : RingRecord) → IsStillOut old s → record_name s ≢ record_name r))
   reserved-kept ring n flags answer call = reserve-kept old new ring n flags answer call.unlogged call.seats.0
 
-  pub ended-keeps : (end : RecordEnd) (owned : SeatRecord) (flags : ℕ) (taken : Bool) → CallsHelpers (ended_call end owned flags taken) old new → (s : SeatRecord) → IsStillOut old s → record_name s ≢ record_name owned → IsStillOut new s
+  pub ended-keeps : (end : RecordEnd) (owned : RingRecord) (flags : ℕ) (taken : Bool) → CallsHelpers (ended_call end owned flags taken) old new → (s : RingRecord) → IsStillOut old s → record_name s ≢ record_name owned → IsStillOut new s
   ended-keeps end owned flags taken call = end-keeps old new end owned flags taken call.due (ended_of owned flags taken call.due call.unlogged old.seats new.seats end call.seats).0
 
-  pub ended-taken : (end : RecordEnd) (owned : SeatRecord) (flags : ℕ) (taken : Bool) → CallsHelpers (ended_call end owned flags taken) old new → IsStillOut old owned → taken ≡ true
+  pub ended-taken : (end : RecordEnd) (owned : RingRecord) (flags : ℕ) (taken : Bool) → CallsHelpers (ended_call end owned flags taken) old new → IsStillOut old owned → taken ≡ true
   ended-taken end owned flags taken call = end-never-back old new end owned flags taken call.due (ended_of owned flags taken call.due call.unlogged old.seats new.seats end call.seats).0
 
-  pub ended-frees : (end : RecordEnd) (owned : SeatRecord) (flags : ℕ) (taken : Bool) → CallsHelpers (ended_call end owned flags taken) old new → IsStillOut new owned → ⊥
+  pub ended-frees : (end : RecordEnd) (owned : RingRecord) (flags : ℕ) (taken : Bool) → CallsHelpers (ended_call end owned flags taken) old new → IsStillOut new owned → ⊥
   ended-frees end owned flags taken call = end-frees old new end owned flags taken call.due (ended_of owned flags taken call.due call.unlogged old.seats new.seats end call.seats).0
 
-  pub sent-keeps : (ring : ℕ) (bytes : List ℕ) (flags : ℕ) (answer : ℤ) → CallsHelpers (SentOut ring bytes flags answer) old new → (s : SeatRecord) → IsStillOut old s → IsStillOut new s
+  pub sent-keeps : (ring : ℕ) (bytes : List ℕ) (flags : ℕ) (answer : ℤ) → CallsHelpers (SentOut ring bytes flags answer) old new → (s : RingRecord) → IsStillOut old s → IsStillOut new s
   sent-keeps ring bytes flags answer call = output-keeps old new ring bytes flags answer call.due call.unlogged call.seats call.seats.answer_is.1
 
-  pub queried-keeps : (ring what answer : ℕ) → CallsHelpers (Queried ring what answer) old new → (s : SeatRecord) → IsStillOut old s → IsStillOut new s
+  pub queried-keeps : (ring what answer : ℕ) → CallsHelpers (Queried ring what answer) old new → (s : RingRecord) → IsStillOut old s → IsStillOut new s
   queried-keeps ring what answer call = query-keeps old new ring what answer call.seats.0

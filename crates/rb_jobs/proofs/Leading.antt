@@ -7,7 +7,7 @@ use Rattle.rb_history.specs.RoomRule.{Setup}
 use Rattle.rb_history.specs.declared.entries.Entry.{Entry}
 use Rattle.rb_ledger.specs.Seats.{WorkerSeat}
 use Rattle.rb_interp.specs.AnsweredCalls.{AnsweredCall, Reserved, Submitted, Discarded, SentOut, Queried, note_of, notes_of, MayAnswer}
-use Rattle.rb_jobs.specs.declared.seat_record.SeatRecord.{SeatRecord}
+use Rattle.rb_chapter_ring.specs.declared.ring_record.RingRecord.{RingRecord}
 use Rattle.rb_jobs.specs.SeatCalls.{CallsSeats}
 use Rattle.rb_jobs.specs.SeatHelpers.{AtSeats}
 use Rattle.rb_jobs.specs.SeatLaws.{HelpersLead, SeatsMayAnswer}
@@ -29,7 +29,7 @@ no_number r h what many =
     ∙ ap (λ b. if b then consumer_of r.start h else if what == 3 then producer_of r.start h else 0) second
     ∙ ap (λ b. if b then producer_of r.start h else 0) third
 
-may_answer : (call : AnsweredCall SeatRecord) (due : Bool) (unlogged : ℕ) (old new : List WorkerSeat) → CallsSeats call due unlogged old new → MayAnswer (note_of call)
+may_answer : (call : AnsweredCall RingRecord) (due : Bool) (unlogged : ℕ) (old new : List WorkerSeat) → CallsSeats call due unlogged old new → MayAnswer (note_of call)
 may_answer (Reserved ring n flags (Some r)) due unlogged old new led = λ granted. led.0.0
 may_answer (Reserved ring n flags None) due unlogged old new led = λ granted. absurd (cc)
 may_answer (Submitted owned flags taken) due unlogged old new led = tt

@@ -10,7 +10,7 @@ use Rattle.rb_interp.specs.declared.completed_call.Done.TheVariants.{Reserve, Ou
 use Rattle.rb_interp.specs.AnsweredCalls.{AnsweredCall, Reserved, SentOut, Queried, note_of}
 use Rattle.rb_jobs.specs.declared.no_record.NoRecord.{NoRecord}
 use Rattle.rb_jobs.specs.declared.no_record.NoRecord.TheVariants.{BadFlags, NoSheet, Refused}
-use Rattle.rb_jobs.specs.declared.seat_record.SeatRecord.{SeatRecord}
+use Rattle.rb_chapter_ring.specs.declared.ring_record.RingRecord.{RingRecord}
 use Rattle.rb_jobs.specs.SeatCalls.{AtSeat, CallsSeats, RecordAnswered, SeatIsRefused, SeatQueries, NoHandOrSheet, HasNoSheet}
 use Rattle.rb_jobs.specs.SeatHelpers.{AtSeats, CallsHelpers, Leads}
 use Rattle.rb_jobs.specs.inner.CallAnswers.{SeatFails, SeatReserves, SeatSends, due_in, output_number, unlogged_in, with_call}
@@ -19,10 +19,10 @@ use Rattle.rb_jobs.proofs.OneSeat.{at_seat_as}
 use Rattle.rb_jobs.proofs.Ends.{is_note, of_ended}
 
 -- one call is a sequence of calls
-pub one_call : (call : AnsweredCall SeatRecord) (old new : AtSeats) → CallsHelpers call old new → Leads old (call ∷ []) new
+pub one_call : (call : AnsweredCall RingRecord) (old new : AtSeats) → CallsHelpers call old new → Leads old (call ∷ []) new
 one_call call old new made = (new, made, refl)
 
-noted : (call : AnsweredCall SeatRecord) (old mid next : AtSeats) (unlogged due : Bool) → mid ≡ record old { seats = mid.seats } → next ≡ with_call mid (note_of call) unlogged
+noted : (call : AnsweredCall RingRecord) (old mid next : AtSeats) (unlogged due : Bool) → mid ≡ record old { seats = mid.seats } → next ≡ with_call mid (note_of call) unlogged
     → 0 < old.room → CallsSeats call due (cond unlogged 1 0) old.seats mid.seats → CallsHelpers call old next
 noted call old mid next unlogged due rest note room made =
     let left = ap (λ (h : AtSeats). h.room) note in let was = ap (λ (h : AtSeats). h.room) rest in
@@ -97,7 +97,7 @@ not_sent_for ring n (Refused HandsFull) old new at = absurd (at.did.1 refl)
 -- ---- reserve
 
 -- the helpers' answer
-abbrev pub record_in : ℕ → Result HandGranted NoRecord → Option SeatRecord
+abbrev pub record_in : ℕ → Result HandGranted NoRecord → Option RingRecord
 record_in ring (Ok r) = Some (record { ring = ring; reservation = r })
 record_in ring (Err fault) = None
 
@@ -121,7 +121,7 @@ reserve_noted old mid next ring n flags (Ok r) rest bad no_step at room note =
 reserve_noted old mid next ring n flags (Err fault) rest bad no_step at room note =
     noted (Reserved ring n flags None) old mid next (unlogged_in {T = HandGranted} (Err fault)) false rest note room (reserve_seats ring n flags (Err fault) old.seats mid.seats bad no_step at)
 
-pub reserved : (old mid next : AtSeats) (ring n flags : ℕ) (answer : Result HandGranted NoRecord) (given : Option SeatRecord) (granted unlogged : Bool)
+pub reserved : (old mid next : AtSeats) (ring n flags : ℕ) (answer : Result HandGranted NoRecord) (given : Option RingRecord) (granted unlogged : Bool)
     → given ≡ record_in ring answer → granted ≡ is_ok answer → unlogged ≡ unlogged_in answer
     → mid ≡ record old { seats = mid.seats } → IsErrOf answer BadFlags ↔ (flags ≢ 0) → (flags ≢ 0 → mid.seats ≡ old.seats)
     → (flags ≡ 0 → AtSeat ring (SeatReserves n answer) old.seats mid.seats) → 0 < old.room
@@ -133,7 +133,7 @@ reserved old mid next ring n flags answer given granted unlogged given_is grante
 
 -- ---- submit and discard
 
-pub ended : {E : Type 0} (end : RecordEnd) (old mid next : AtSeats) (owned : SeatRecord) (flags : ℕ) (answer : Result Notice E) (taken logged : Bool) (note : Done)
+pub ended : {E : Type 0} (end : RecordEnd) (old mid next : AtSeats) (owned : RingRecord) (flags : ℕ) (answer : Result Notice E) (taken logged : Bool) (note : Done)
     → taken ≡ is_ok answer → logged ≡ is_ok answer → note ≡ ended_note end flags logged → mid ≡ record old { seats = mid.seats }
     → RecordAnswered owned.ring (is_ok answer) (due_in answer) (SeatEnds end owned.reservation flags (is_ok answer) (due_in answer)) old.seats mid.seats
     → 0 < old.room → next ≡ with_call mid note false → CallsHelpers (ended_call end owned flags taken) old next

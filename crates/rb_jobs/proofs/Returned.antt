@@ -13,8 +13,8 @@ use Rattle.rb_semantics.specs.ProgramRuns.{Returns, run_of, run_resumed, run_fol
 use Rattle.rb_interp.specs.declared.fault.RunFault.{RunFault}
 use Rattle.rb_interp.specs.declared.fault.RunFault.TheVariants.{ContextLength, Stray}
 use Rattle.rb_interp.specs.RunTraces.{traced_answer, held_once_made, IsMade, AreMade, RunMatches, TraceBalances, grants_record, returns_record}
-use Rattle.rb_jobs.specs.declared.seat_record.SeatRecord.{SeatRecord}
-use Rattle.rb_jobs.specs.SeatRecords.{reserved_bytes, with_record_bytes}
+use Rattle.rb_chapter_ring.specs.declared.ring_record.RingRecord.{RingRecord}
+use Rattle.rb_chapter_ring.specs.RingRecords.{reserved_bytes, with_record_bytes}
 use Rattle.rb_jobs.specs.SeatHelpers.{makes, submits, discards, call_total}
 use Rattle.rb_jobs.specs.Jobs.{JobsGiveBack}
 
@@ -34,15 +34,15 @@ AreTaken (d ∷ notes) = IsTaken d × AreTaken notes
 
 -- the records that are held, each with its id
 abbrev Held : Type 0
-Held = List (ℕ × SeatRecord)
+Held = List (ℕ × RingRecord)
 
-abbrev Makes : Held → HelperCall → AnsweredCall SeatRecord → Type 0
+abbrev Makes : Held → HelperCall → AnsweredCall RingRecord → Type 0
 Makes held call made = IsMade reserved_bytes with_record_bytes held call made
 
-abbrev MakesAll : Held → List HelperCall → List (AnsweredCall SeatRecord) → Type 0
+abbrev MakesAll : Held → List HelperCall → List (AnsweredCall RingRecord) → Type 0
 MakesAll held calls made = AreMade reserved_bytes with_record_bytes held calls made
 
-taken_on : (held : Held) (call : HelperCall) (made : AnsweredCall SeatRecord) (s t : State) → Makes held call made
+taken_on : (held : Held) (call : HelperCall) (made : AnsweredCall RingRecord) (s t : State) → Makes held call made
     → resume (pending_call_of call) (traced_answer (note_of made)) s ≡ Resumes t → IsTaken (note_of made)
 taken_on held call (Reserved ring len flags answer) s t so goes = tt
 taken_on held call (Submitted owned flags true) s t so goes = refl
@@ -56,10 +56,10 @@ taken_on held _ _ s t so goes = absurd so
 module _ (subject : Subject) (n : ℕ) where
   -- the runs with this many steps that return the result hand no record back
   abbrev AreSmooth : ℕ → Type 0
-  AreSmooth steps = (held : Held) (s : State) (made : List (AnsweredCall SeatRecord)) → MakesAll held (run_of subject.program steps s (map traced_answer (notes_of made))).calls made
+  AreSmooth steps = (held : Held) (s : State) (made : List (AnsweredCall RingRecord)) → MakesAll held (run_of subject.program steps s (map traced_answer (notes_of made))).calls made
       → (run_of subject.program steps s (map traced_answer (notes_of made))).outcome ≡ Returns n → AreTaken (notes_of made)
 
-  resumption_smooth : (steps : ℕ) (held : Held) (call : HelperCall) (one : AnsweredCall SeatRecord) (made : List (AnsweredCall SeatRecord)) (s : State) (r : Resumption) → AreSmooth steps
+  resumption_smooth : (steps : ℕ) (held : Held) (call : HelperCall) (one : AnsweredCall RingRecord) (made : List (AnsweredCall RingRecord)) (s : State) (r : Resumption) → AreSmooth steps
       → Makes held call one → resume (pending_call_of call) (traced_answer (note_of one)) s ≡ r
       → MakesAll (held_once_made held call one) (run_resumed (run_of subject.program steps) r (map traced_answer (notes_of made))).calls made
       → (run_resumed (run_of subject.program steps) r (map traced_answer (notes_of made))).outcome ≡ Returns n → IsTaken (note_of one) × AreTaken (notes_of made)
@@ -67,7 +67,7 @@ module _ (subject : Subject) (n : ℕ) where
   resumption_smooth steps held call one made s Strays smooth so is more ends = absurd (cc)
   resumption_smooth steps held call one made s Unfit smooth so is more ends = absurd (cc)
 
-  effect_smooth : (steps : ℕ) (held : Held) (effect : StepEffect) (made : List (AnsweredCall SeatRecord)) → AreSmooth steps
+  effect_smooth : (steps : ℕ) (held : Held) (effect : StepEffect) (made : List (AnsweredCall RingRecord)) → AreSmooth steps
       → MakesAll held (run_followed (run_of subject.program steps) effect (map traced_answer (notes_of made))).calls made
       → (run_followed (run_of subject.program steps) effect (map traced_answer (notes_of made))).outcome ≡ Returns n → AreTaken (notes_of made)
   effect_smooth steps held (Goes s) made smooth so ends = smooth held s made so ends
@@ -121,7 +121,7 @@ given_back_in_trace (d ∷ notes) taken =
 
 -- ---- jobs
 
-pub calls_give_back : (subject : Subject) (context : List ℕ) (result : Result ℕ RunFault) (calls : List (AnsweredCall SeatRecord))
+pub calls_give_back : (subject : Subject) (context : List ℕ) (result : Result ℕ RunFault) (calls : List (AnsweredCall RingRecord))
     → RunMatches reserved_bytes with_record_bytes subject context calls result → OnOk result (TraceBalances [] (notes_of calls)) → result ≢ Err Stray
     → call_total makes (notes_of calls) ≡ call_total submits (notes_of calls) + call_total discards (notes_of calls)
 calls_give_back subject context (Ok n) calls shows balanced ends =

@@ -9,7 +9,7 @@ use Rattle.rb_ledger.specs.Seats.{WorkerSeat, IsSameSeat}
 use Rattle.rb_interp.specs.declared.completed_call.Done.{Done}
 use Rattle.rb_interp.specs.declared.completed_call.Done.TheVariants.{Reserve, Submit, Discard, Output, Query}
 use Rattle.rb_interp.specs.AnsweredCalls.{AnsweredCall, Reserved, Submitted, Discarded, SentOut, Queried, note_of}
-use Rattle.rb_jobs.specs.declared.seat_record.SeatRecord.{SeatRecord}
+use Rattle.rb_chapter_ring.specs.declared.ring_record.RingRecord.{RingRecord}
 use Rattle.rb_jobs.specs.SeatCalls.{AtSeat, CallsSeats, OutputAnswered, RecordAnswered, SeatDiscards, SeatIsRefused, SeatSubmits, NoHandOrSheet, HasNoSheet}
 use Rattle.rb_jobs.specs.SeatHelpers.{makes, submits, discards, fails, made_in, refused_in, submitted_in, discarded_in}
 use Rattle.rb_jobs.specs.SeatLaws.{SeatsRise, TotalsRise}
@@ -107,11 +107,11 @@ refused_rises Uncalled d ring n unlogged old new at makes_is fails_is submits_is
 not_zero : (n : ℕ) → suc n ≢ 0
 not_zero n e = absurd (omega (arith, e))
 
-submit_adds : (owned : SeatRecord) (flags : ℕ) (taken due : Bool) (b a : WorkerSeat) → SeatSubmits owned.reservation flags taken due b a → Adds 0 0 (submits (Submit flags taken)) 0 b a
+submit_adds : (owned : RingRecord) (flags : ℕ) (taken due : Bool) (b a : WorkerSeat) → SeatSubmits owned.reservation flags taken due b a → Adds 0 0 (submits (Submit flags taken)) 0 b a
 submit_adds owned flags true due b a did = adds_as 0 0 1 0 b a _ (did.takes refl).1 (record { tag_same = refl; ring_same = refl; room_same = refl; worker_same = refl }, add_zero _, add_zero _, refl, add_zero _)
 submit_adds owned flags false due b a did = adds_as 0 0 0 0 b a _ (did.hands_back refl).1 (same_seat b, add_zero _, add_zero _, add_zero _, add_zero _)
 
-discard_adds : (owned : SeatRecord) (flags : ℕ) (taken due : Bool) (b a : WorkerSeat) → SeatDiscards owned.reservation flags taken due b a → Adds 0 0 0 (discards (Discard flags taken)) b a
+discard_adds : (owned : RingRecord) (flags : ℕ) (taken due : Bool) (b a : WorkerSeat) → SeatDiscards owned.reservation flags taken due b a → Adds 0 0 0 (discards (Discard flags taken)) b a
 discard_adds owned flags true due b a did = adds_as 0 0 0 1 b a _ (did.takes refl).1 (record { tag_same = refl; ring_same = refl; room_same = refl; worker_same = refl }, add_zero _, add_zero _, add_zero _, refl)
 discard_adds owned flags false due b a did = adds_as 0 0 0 0 b a _ (did.hands_back refl).1 (same_seat b, add_zero _, add_zero _, add_zero _, add_zero _)
 
@@ -121,14 +121,14 @@ submit_none flags taken is = ap (λ t. submits (Submit flags t)) (sym is)
 discard_none : (flags : ℕ) (taken : Bool) → taken ≡ false → 0 ≡ discards (Discard flags taken)
 discard_none flags taken is = ap (λ t. discards (Discard flags t)) (sym is)
 
-submit_rises : (owned : SeatRecord) (flags : ℕ) (taken due : Bool) (unlogged : ℕ) (old new : List WorkerSeat) → unlogged ≡ 0
+submit_rises : (owned : RingRecord) (flags : ℕ) (taken due : Bool) (unlogged : ℕ) (old new : List WorkerSeat) → unlogged ≡ 0
     → RecordAnswered owned.ring taken due (SeatSubmits owned.reservation flags taken due) old new → (owned.ring < length old) ⊎ (length old ≤ owned.ring) → CallRises (Submit flags taken) unlogged old new
 submit_rises owned flags taken due unlogged old new none led (inl below) =
     let at = led.at_ring below in rises_at (Submit flags taken) unlogged 0 0 _ 0 owned.ring _ old new at (submit_adds owned flags taken due at.before at.after at.did) refl (none_added unlogged none) refl refl
 submit_rises owned flags taken due unlogged old new none led (inr beyond) =
     let no = led.no_ring beyond in rises_nowhere (Submit flags taken) unlogged old new no.2 none refl refl (submit_none flags taken no.0) refl
 
-discard_rises : (owned : SeatRecord) (flags : ℕ) (taken due : Bool) (unlogged : ℕ) (old new : List WorkerSeat) → unlogged ≡ 0
+discard_rises : (owned : RingRecord) (flags : ℕ) (taken due : Bool) (unlogged : ℕ) (old new : List WorkerSeat) → unlogged ≡ 0
     → RecordAnswered owned.ring taken due (SeatDiscards owned.reservation flags taken due) old new → (owned.ring < length old) ⊎ (length old ≤ owned.ring) → CallRises (Discard flags taken) unlogged old new
 discard_rises owned flags taken due unlogged old new none led (inl below) =
     let at = led.at_ring below in rises_at (Discard flags taken) unlogged 0 0 0 _ owned.ring _ old new at (discard_adds owned flags taken due at.before at.after at.did) refl (none_added unlogged none) refl refl
@@ -150,7 +150,7 @@ output_rises ring bytes flags answer due unlogged old new led (inr (inr is)) =
     subst (λ x. CallRises (Output ring (length bytes) flags x) unlogged old new) (sym is)
     (rises_nowhere (Output ring (length bytes) flags (negsuc 21)) unlogged old new same.0 same.2 refl refl refl refl)
 
-call_rises : (call : AnsweredCall SeatRecord) (due : Bool) (unlogged : ℕ) (old new : List WorkerSeat) → CallsSeats call due unlogged old new → CallRises (note_of call) unlogged old new
+call_rises : (call : AnsweredCall RingRecord) (due : Bool) (unlogged : ℕ) (old new : List WorkerSeat) → CallsSeats call due unlogged old new → CallRises (note_of call) unlogged old new
 call_rises (Reserved ring n zero (Some r)) due unlogged old new led =
     rises_at (Reserve ring n 0 true) unlogged 1 0 0 0 ring _ old new led.0.3
     (adds_as 1 0 0 0 led.0.3.before led.0.3.after _ led.0.3.did.4 (record { tag_same = refl; ring_same = refl; room_same = refl; worker_same = refl }, refl, add_zero _, add_zero _, add_zero _)) refl (none_added unlogged led.0.1) refl refl

@@ -6,8 +6,8 @@ use Rattle.rb_interp.specs.AnsweredCalls.{AnsweredCall, AllMayAnswer, notes_of}
 use Rattle.rb_interp.specs.declared.fault.RunFault.TheVariants.{Stray}
 use Rattle.rb_interp.specs.RunTraces.{RunMatches, TellsLength, TraceBalances}
 use Rattle.rb_ledger.specs.Seats.{Shared, WorkerSeat, IsSameSeat}
-use Rattle.rb_jobs.specs.declared.seat_record.SeatRecord.{SeatRecord}
-use Rattle.rb_jobs.specs.SeatRecords.{reserved_bytes, with_record_bytes}
+use Rattle.rb_chapter_ring.specs.declared.ring_record.RingRecord.{RingRecord}
+use Rattle.rb_chapter_ring.specs.RingRecords.{reserved_bytes, with_record_bytes}
 use Rattle.rb_jobs.specs.SeatHelpers.{SeatsLead, makes, submits, discards, fails, call_total, made_in, refused_in, submitted_in, discarded_in}
 use Rattle.rb_jobs.specs.declared.job.Job.{Job}
 use Rattle.rb_jobs.specs.declared.job.JobAnswer.{JobAnswer}
@@ -32,7 +32,7 @@ pub record WorkerAtRings : Type 0 where
 -- counts together grew by what the calls say. Each null for flags 0 and each answer -EAGAIN is a refusal in a ring's
 -- history, or unlogged.
 pub record JobRan (task : Task) (answer : JobAnswer) (old new : List WorkerSeat) : Type 0 where
-  pub calls : List (AnsweredCall SeatRecord)
+  pub calls : List (AnsweredCall RingRecord)
   pub length_is : TellsLength task.program task.context answer.result
   pub shows : RunMatches reserved_bytes with_record_bytes task.program task.context calls answer.result
   pub never_stray : answer.result ≢ Err Stray

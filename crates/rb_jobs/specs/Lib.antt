@@ -1,7 +1,6 @@
 pub mod SeatCalls
 pub mod SeatHelpers
 pub mod SeatLaws
-pub mod SeatRecords
 pub mod KeptRecords
 pub mod Jobs
 pub mod inner

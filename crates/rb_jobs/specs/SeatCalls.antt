@@ -15,7 +15,7 @@ use Rattle.rb_chapter_ring.specs.HandGranted.{HandGranted}
 use Rattle.rb_shared_ring.specs.SharedCalls.{RefusesInRoom, ReservesInRoom, OutputsInRoom}
 use Rattle.rb_interp.specs.ErrorNumbers.{EAGAIN, EINVAL}
 use Rattle.rb_interp.specs.AnsweredCalls.{AnsweredCall, Reserved, Submitted, Discarded, SentOut, Queried, MayAnswerOutput}
-use Rattle.rb_jobs.specs.declared.seat_record.SeatRecord.{SeatRecord}
+use Rattle.rb_chapter_ring.specs.declared.ring_record.RingRecord.{RingRecord}
 
 -- ---- one seat
 
@@ -129,7 +129,7 @@ pub record AtSeat (ring : ℕ) (Did : WorkerSeat → WorkerSeat → Type 0) (old
   pub did : Did before after
 
 -- a call to reserve n bytes was answered by a record of this ring, or by null; nonzero flags change nothing
-abbrev pub ReserveAnswered : ℕ → ℕ → ℕ → Option SeatRecord → ℕ → List WorkerSeat → List WorkerSeat → Type 0
+abbrev pub ReserveAnswered : ℕ → ℕ → ℕ → Option RingRecord → ℕ → List WorkerSeat → List WorkerSeat → Type 0
 ReserveAnswered ring n flags (Some r) unlogged old new =
     (flags ≡ 0) × (unlogged ≡ 0) × (r.ring ≡ ring) × AtSeat ring (SeatIsGranted n r.reservation) old new
 ReserveAnswered ring n flags None unlogged old new =
@@ -150,7 +150,7 @@ pub record OutputAnswered (ring : ℕ) (bytes : List ℕ) (flags : ℕ) (answer 
 
 -- the call was made and answered in this way with the seats; whether a notice is due, and the number of unlogged
 -- failures that it added
-abbrev pub CallsSeats : AnsweredCall SeatRecord → Bool → ℕ → List WorkerSeat → List WorkerSeat → Type 0
+abbrev pub CallsSeats : AnsweredCall RingRecord → Bool → ℕ → List WorkerSeat → List WorkerSeat → Type 0
 CallsSeats (Reserved ring n flags answer) due unlogged old new = ReserveAnswered ring n flags answer unlogged old new × (due ≡ false)
 CallsSeats (Submitted owned flags taken) due unlogged old new =
     RecordAnswered owned.ring taken due (SeatSubmits owned.reservation flags taken due) old new × (unlogged ≡ 0)

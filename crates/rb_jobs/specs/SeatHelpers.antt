@@ -8,7 +8,7 @@ use Rattle.rb_interp.specs.ErrorNumbers.{EAGAIN}
 use Rattle.rb_interp.specs.declared.completed_call.Done.{Done}
 use Rattle.rb_interp.specs.declared.completed_call.Done.TheVariants.{Reserve, Submit, Discard, Output}
 use Rattle.rb_interp.specs.AnsweredCalls.{AnsweredCall, note_of}
-use Rattle.rb_jobs.specs.declared.seat_record.SeatRecord.{SeatRecord}
+use Rattle.rb_chapter_ring.specs.declared.ring_record.RingRecord.{RingRecord}
 use Rattle.rb_jobs.specs.SeatCalls.{CallsSeats}
 
 -- the rings, the worker's seat at each of them, the calls so far, the room for more, and the number of nulls for flags 0
@@ -34,7 +34,7 @@ AtRings rings seats = AllZip IsAt rings seats
 
 -- one call was made with one of the seats, and appended to the trace with its answer; whether its ring made a notice
 -- due
-pub record CallsHelpers (call : AnsweredCall SeatRecord) (old new : AtSeats) : Type 0 where
+pub record CallsHelpers (call : AnsweredCall RingRecord) (old new : AtSeats) : Type 0 where
   pub rings_same : new.rings ≡ old.rings
   pub trace_is : new.trace ≡ old.trace ++ note_of call ∷ []
   pub room_is : new.room + 1 ≡ old.room
@@ -44,13 +44,13 @@ pub record CallsHelpers (call : AnsweredCall SeatRecord) (old new : AtSeats) : T
   pub seats : CallsSeats call due unlogged old.seats new.seats
 
 -- these calls, the oldest first, lead from the old value to the new one
-abbrev pub Leads : AtSeats → List (AnsweredCall SeatRecord) → AtSeats → Type 0
+abbrev pub Leads : AtSeats → List (AnsweredCall RingRecord) → AtSeats → Type 0
 Leads start [] now = now ≡ start
 Leads start (call ∷ more) now = (mid : AtSeats) × CallsHelpers call start mid × Leads mid more now
 
 -- these calls lead from the old state of the seats to the new one, and this many of their failures are recorded in no
 -- history
-abbrev pub SeatsLead : List WorkerSeat → List (AnsweredCall SeatRecord) → ℕ → List WorkerSeat → Type 0
+abbrev pub SeatsLead : List WorkerSeat → List (AnsweredCall RingRecord) → ℕ → List WorkerSeat → Type 0
 SeatsLead old [] unlogged new = (new ≡ old) × (unlogged ≡ 0)
 SeatsLead old (call ∷ more) unlogged new =
     (due : Bool) × (mid : List WorkerSeat) × (first rest : ℕ) × CallsSeats call due first old mid × SeatsLead mid more rest new × (unlogged ≡ first + rest)

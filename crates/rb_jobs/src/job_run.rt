@@ -6,7 +6,8 @@ ghost use Rattle.rb_jobs.specs.SeatHelpers.{AtRings};
 ghost use Rattle.rb_jobs.specs.Jobs.{JobRanCounted, task_of};
 
 use crate::job::{Gate, Job, JobAnswer};
-use crate::{SeatHelpers, SeatRecord, Stock};
+use crate::{SeatHelpers, Stock};
+use rb_chapter_ring::RingRecord;
 use rb_interp::{Helpers, MachineRoom, run_in};
 use rb_shared_ring::{Seat, SharedRing};
 use std::alloc::{AllocError, Global};
@@ -21,7 +22,7 @@ use std::sync::Wait;
 #[derive(Drop)]
 pub struct JobRunner<'r, 'j, R, G, K> {
     helpers: SeatHelpers<'r, R, K, G>,
-    machine: MachineRoom<'j, SeatRecord>,
+    machine: MachineRoom<'j, RingRecord>,
     calls: u64,
 }
 
@@ -106,7 +107,7 @@ impl<'r, 'j, R: Wait, G: Gate, K: Stock> JobRunner<'r, 'j, R, G, K> {
 // Runs a job with helpers that have no calls yet and room for the job's calls, and counts the calls.
 fn run_begun<'j, R: Wait, G: Gate, K: Stock>(
     helpers: &mut SeatHelpers<'_, R, K, G>,
-    machine: &mut MachineRoom<'j, SeatRecord>,
+    machine: &mut MachineRoom<'j, RingRecord>,
     job: &Job<'j>,
     calls: &mut u64,
 ) -> JobAnswer

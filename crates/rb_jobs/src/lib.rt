@@ -33,7 +33,6 @@ mod no_record;
 mod ring_calls;
 mod seat_helpers;
 mod seat_laws;
-mod seat_record;
 mod sheets;
 mod stock;
 
@@ -42,5 +41,4 @@ pub use job_laws::jobs_give_back;
 pub use job_run::{JobRunner, run_job};
 pub use seat_helpers::SeatHelpers;
 pub use seat_laws::{helpers_lead, seats_go_on, seats_may_answer, seats_rise};
-pub use seat_record::SeatRecord;
 pub use stock::{NoStock, SHORT, Stock};

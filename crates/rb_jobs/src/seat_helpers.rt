@@ -15,10 +15,9 @@ use crate::call_answers::{answer_of, is_unlogged};
 use crate::job::Gate;
 use crate::no_record::NoRecord;
 use crate::ring_calls::{output_at, reserve_at};
-use crate::seat_record::SeatRecord;
 use crate::sheets::{copied_sheet, zero_sheet};
 use crate::stock::Stock;
-use rb_chapter_ring::RecordEnd;
+use rb_chapter_ring::{RecordEnd, RingRecord};
 use rb_history::{KNOWN_FLAGS, Notice};
 use rb_interp::{Done, Helpers};
 use rb_shared_ring::{Foreign, Reservation, Seat, SharedRing};
@@ -258,7 +257,7 @@ impl<'h, R: Wait, S: Stock, G: Gate> Helpers for SeatHelpers<'h, R, S, G> {
     ghost use Rattle.rb_jobs.specs.inner.Chains.{none_called, called_on};
     ghost use Rattle.rb_jobs.specs.inner.WrittenRecords.{kept_written};
 
-    type Record = SeatRecord;
+    type Record = RingRecord;
 
     ghost trace_of = { λ h. h.trace };
 
@@ -288,7 +287,7 @@ impl<'h, R: Wait, S: Stock, G: Gate> Helpers for SeatHelpers<'h, R, S, G> {
     /// history records; and, as an unlogged failure, if the ring's chapter is full at 64 calls, between which the
     /// worker waits, if none of the seat's four hands (slots for records that are out) is free, or if an allocation for
     /// more than 16 bytes fails.
-    fn reserve(&mut self, ring: u32, n: u32, flags: u64) -> Option<SeatRecord>
+    fn reserve(&mut self, ring: u32, n: u32, flags: u64) -> Option<RingRecord>
         requires room { 0 < self.old.room }
         requires ring { has_number self.old ring ≡ true }
         ensures trace { self.new.trace ≡ self.old.trace ++ Reserve ring n flags (is_some result) ∷ [] }
@@ -310,7 +309,7 @@ impl<'h, R: Wait, S: Stock, G: Gate> Helpers for SeatHelpers<'h, R, S, G> {
                     granted: true,
                 };
                 self.log(done, unlogged);
-                Some(SeatRecord { ring, reservation })
+                Some(RingRecord { ring, reservation })
             }
             Err(_) => {
                 let done = Done::Reserve {
@@ -329,7 +328,7 @@ impl<'h, R: Wait, S: Stock, G: Gate> Helpers for SeatHelpers<'h, R, S, G> {
     /// since.
     ///
     /// Returns the record if its ring is not among the helpers' rings, or if it is not out in a hand of the seat there.
-    fn submit(&mut self, owned: SeatRecord, flags: u64) -> Result<(), SeatRecord>
+    fn submit(&mut self, owned: RingRecord, flags: u64) -> Result<(), RingRecord>
         requires room { 0 < self.old.room }
         ensures trace { self.new.trace ≡ self.old.trace ++ Submit flags (is_ok result) ∷ [] }
         ensures room { self.new.room + 1 ≡ self.old.room }
@@ -346,7 +345,7 @@ impl<'h, R: Wait, S: Stock, G: Gate> Helpers for SeatHelpers<'h, R, S, G> {
     /// since.
     ///
     /// Returns the record if its ring is not among the helpers' rings, or if it is not out in a hand of the seat there.
-    fn discard(&mut self, owned: SeatRecord, flags: u64) -> Result<(), SeatRecord>
+    fn discard(&mut self, owned: RingRecord, flags: u64) -> Result<(), RingRecord>
         requires room { 0 < self.old.room }
         ensures trace { self.new.trace ≡ self.old.trace ++ Discard flags (is_ok result) ∷ [] }
         ensures room { self.new.room + 1 ≡ self.old.room }

@@ -1,7 +1,7 @@
 //! Bytes in rows: hex, and text with escapes.
 
+use crate::answer_text::AnswerText;
 use std::alloc::{AllocError, Global};
-use std::fmt::Write;
 
 /// Decodes hex, ignoring white space, or returns `None` if it is not hex.
 pub(crate) fn bytes_of(alloc: Global, hex: &str) -> Result<Option<Vec<u8>>, AllocError> {
@@ -68,23 +68,28 @@ fn value_of(digit: u8) -> u8 {
 }
 
 /// Appends bytes with escapes, each line of them on a line of its own that begins with `word`.
-pub(crate) fn tell_escaped(word: &str, bytes: &[u8], out: &mut String) -> Result<(), AllocError> {
+pub(crate) fn tell_escaped(word: &str, bytes: &[u8], out: &mut AnswerText) {
     let mut begins = true;
     for byte in bytes {
         if begins {
-            write!(out, "\n{word} ")?;
+            tell_word(word, out);
         }
-        tell_byte(*byte, out)?;
+        tell_byte(*byte, out);
         begins = *byte == b'\n';
     }
-    Ok(())
 }
 
-fn tell_byte(byte: u8, out: &mut String) -> Result<(), AllocError> {
+fn tell_word(word: &str, out: &mut AnswerText) {
+    out.push("\n");
+    out.push(word);
+    out.push(" ");
+}
+
+fn tell_byte(byte: u8, out: &mut AnswerText) {
     match byte {
-        b'\n' => out.push_str("\\n"),
-        b'\\' => out.push_str("\\\\"),
-        b' '..=b'~' => out.push(char::from(byte)),
-        _ => write!(out, "\\x{byte:02x}"),
+        b'\n' => out.push("\\n"),
+        b'\\' => out.push("\\\\"),
+        b' '..=b'~' => out.show(&char::from(byte)),
+        _ => out.escape(byte),
     }
 }

@@ -1,9 +1,9 @@
 //! Command lines of `rbhost`, with inputs in memory.
 
+use crate::answer_text::AnswerText;
 use crate::bytes::{bytes_of, tell_escaped, unescaped};
 use rb_command_line::{Host, NotedReader, NotedWriter, Terminals, command};
 use std::alloc::{AllocError, Global};
-use std::fmt::Write;
 use std::fs::File;
 use std::io::{self, Eprint, Read};
 use std::rt::Files;
@@ -47,18 +47,42 @@ struct Ending {
 /// once.
 pub(crate) fn answer_command_line<
     R: Threads + Wait + Sync + Files<File = File> + Clock + Eprint + Host,
->(rt: &R, alloc: Global, line: &str, out: &mut String) -> Result<(), AllocError> {
-    let (words, input) = match (line.split_once("< "), line.split_once(": ")) {
-        (Some((words, text)), _) => (words, Some(unescaped(alloc, text)?)),
-        (None, Some((words, hex))) => (words, bytes_of(alloc, hex)?),
-        (None, None) => (line, Some(Vec::new(alloc))),
-    };
-    match (words_of(alloc, words)?, input) {
-        (Some(words), Some(input)) => {
-            tell_command(rt, alloc, words.as_slice(), input.as_slice(), out)
-        }
-        _ => out.push_str("no words or no input"),
+>(rt: &R, alloc: Global, line: &str, out: &mut AnswerText) {
+    let (words, input) = words_and_input(alloc, line);
+    match (words_of(alloc, words), input) {
+        (Ok(words), Ok(input)) => tell_line(rt, alloc, words, input, out),
+        _ => out.lack(),
     }
+}
+
+fn tell_line<R: Threads + Wait + Sync + Files<File = File> + Clock + Eprint + Host>(
+    rt: &R,
+    alloc: Global,
+    words: Option<Vec<String>>,
+    input: Option<Vec<u8>>,
+    out: &mut AnswerText,
+) {
+    match (words, input) {
+        (Some(words), Some(input)) => {
+            tell_command(rt, alloc, words.as_slice(), input.as_slice(), out);
+        }
+        _ => out.push("no words or no input"),
+    }
+}
+
+// Returns the words of a line as it has them, and its input, or `None` if that is not hex.
+fn words_and_input(alloc: Global, line: &str) -> (&str, Result<Option<Vec<u8>>, AllocError>) {
+    if let Some((words, text)) = line.split_once("< ") {
+        return (words, text_of(alloc, text));
+    }
+    match line.split_once(": ") {
+        Some((words, hex)) => (words, bytes_of(alloc, hex)),
+        None => (line, Ok(Some(Vec::new(alloc)))),
+    }
+}
+
+fn text_of(alloc: Global, text: &str) -> Result<Option<Vec<u8>>, AllocError> {
+    Ok(Some(unescaped(alloc, text)?))
 }
 
 // Returns the words of a command line, or `None` if one is not text.
@@ -82,17 +106,24 @@ fn tell_command<R: Threads + Wait + Sync + Files<File = File> + Clock + Eprint +
     alloc: Global,
     words: &[String],
     input: &[u8],
-    out: &mut String,
-) -> Result<(), AllocError> {
+    out: &mut AnswerText,
+) {
     let first = ended(rt, alloc, words, input, PIECES[0]);
     if !is_run(words) {
         for most in &PIECES[1..] {
-            if ended(rt, alloc, words, input, *most) != first {
-                write!(out, "differs by {most} bytes, ")?;
-            }
+            let other = ended(rt, alloc, words, input, *most);
+            tell_difference(&first, &other, *most, out);
         }
     }
-    tell_ending(&first, out)
+    tell_ending(&first, out);
+}
+
+// Appends the length of the other command's reads if it ended differently.
+fn tell_difference(first: &Ending, other: &Ending, most: usize, out: &mut AnswerText) {
+    if first != other {
+        out.field("differs by ", &most);
+        out.push(" bytes, ");
+    }
 }
 
 fn is_run(words: &[String]) -> bool {
@@ -132,15 +163,15 @@ fn ended<R: Threads + Wait + Sync + Files<File = File> + Clock + Eprint + Host>(
 
 // Appends the status, and each line of the output and of the error output. Of a usage message only its presence is
 // reported.
-fn tell_ending(ending: &Ending, out: &mut String) -> Result<(), AllocError> {
-    write!(out, "status {}", ending.status)?;
+fn tell_ending(ending: &Ending, out: &mut AnswerText) {
+    out.field("status ", &ending.status);
     if ending.is_unread {
-        out.push_str(", nothing read")?;
+        out.push(", nothing read");
     }
     if ending.status == 2 && ending.told.as_slice().starts_with(b"error: ") {
-        out.push_str(", an error told")?;
+        out.push(", an error told");
     } else {
-        tell_escaped("err", ending.told.as_slice(), out)?;
+        tell_escaped("err", ending.told.as_slice(), out);
     }
-    tell_escaped("out", ending.printed.as_slice(), out)
+    tell_escaped("out", ending.printed.as_slice(), out);
 }

@@ -1,9 +1,10 @@
 //! The costs of programs.
 
+use crate::answer_text::AnswerText;
 use crate::verified::verified;
-use rb_cost::cost_of;
-use std::alloc::{AllocError, Global};
-use std::fmt::Write;
+use rb_cost::{RingCost, cost_of};
+use rb_verifier::Verified;
+use std::alloc::Global;
 
 /// Writes the maximum cost of a verified program, or why the program is refused, for a context of `ctx_len` bytes
 /// and this many rings.
@@ -12,19 +13,30 @@ pub(crate) fn answer_cost(
     ctx_len: u64,
     rings: u64,
     hex: &str,
-    out: &mut String,
-) -> Result<(), AllocError> {
-    let Some(verified) = verified(alloc, ctx_len, rings, hex, out)? else {
-        return Ok(());
-    };
-    let cost = cost_of(alloc, &verified)?;
-    write!(out, "steps {} calls {}", cost.steps, cost.calls)?;
-    for (ring, of_ring) in cost.rings.iter().enumerate() {
-        write!(
-            out,
-            "; ring {ring} records {} bytes {} held {} {}",
-            of_ring.records, of_ring.bytes, of_ring.held_records, of_ring.held_bytes
-        )?;
+    out: &mut AnswerText,
+) {
+    if let Some(verified) = verified(alloc, ctx_len, rings, hex, out) {
+        tell_cost(alloc, &verified, out);
     }
-    Ok(())
+}
+
+fn tell_cost(alloc: Global, verified: &Verified, out: &mut AnswerText) {
+    match cost_of(alloc, verified) {
+        Ok(cost) => {
+            out.field("steps ", &cost.steps);
+            out.field(" calls ", &cost.calls);
+            for (ring, of_ring) in cost.rings.iter().enumerate() {
+                out.field("; ring ", &ring);
+                tell_ring_cost(of_ring, out);
+            }
+        }
+        Err(_) => out.lack(),
+    }
+}
+
+fn tell_ring_cost(cost: &RingCost, out: &mut AnswerText) {
+    out.field(" records ", &cost.records);
+    out.field(" bytes ", &cost.bytes);
+    out.field(" held ", &cost.held_records);
+    out.field(" ", &cost.held_bytes);
 }

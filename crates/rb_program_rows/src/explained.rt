@@ -2,13 +2,14 @@
 
 ghost use Rattle.std.specs.Prelude.{◌≤◌};
 
+use crate::answer_text::AnswerText;
 use crate::decoded::{tell_decode_fault, tell_text_fault};
 use crate::shapes::tell_shape_fault;
-use rb_explain::{Explanation, Reason, explain};
+use crate::verified::tell_rule;
+use rb_explain::{Reason, explain};
 use rb_json::LineForm;
 use rb_program::TextFault;
-use std::alloc::{AllocError, Global};
-use std::fmt::Write;
+use std::alloc::Global;
 
 /// The part of an explanation to report.
 #[derive(Clone, Copy)]
@@ -25,39 +26,35 @@ pub(crate) enum ExplainedPart {
 /// this many rings.
 pub(crate) fn answer_explain(
     alloc: Global,
-    (ctx_len, rings): (u64, u64),
+    ctx_len: u64,
+    rings: u64,
     part: ExplainedPart,
     hex: &str,
-    out: &mut String,
-) -> Result<(), AllocError> {
+    out: &mut AnswerText,
+) {
     if ctx_len > 65_536 || rings > 16 {
-        return out.push_str("out of bounds");
+        return out.push("out of bounds");
     }
-    let Ok(explanation) = explain(alloc, hex, ctx_len as u32, rings as u32, LineForm::Words) else {
-        return out.push_str("refused memory");
-    };
-    tell_reason(explanation.reason, out)?;
-    tell_part(&explanation, part, out)
+    match explain(alloc, hex, ctx_len as u32, rings as u32, LineForm::Words) {
+        Ok(explanation) => {
+            tell_reason(explanation.reason, out);
+            tell_part(explanation.text.as_str(), part, out);
+        }
+        Err(_) => out.push("refused memory"),
+    }
 }
 
-fn tell_reason(reason: Option<Reason>, out: &mut String) -> Result<(), AllocError> {
+fn tell_reason(reason: Option<Reason>, out: &mut AnswerText) {
     match reason {
-        None => out.push_str("accepted"),
+        None => out.push("accepted"),
         Some(Reason::Text) => tell_text_fault(TextFault::NotHex, out),
         Some(Reason::Decode(fault)) => tell_decode_fault(fault, out),
         Some(Reason::Shape(fault)) => tell_shape_fault(fault, out),
-        Some(Reason::Rule { unit, rule }) => {
-            write!(out, "refused verify V{} unit {unit}", rule.number())
-        }
+        Some(Reason::Rule { unit, rule }) => tell_rule(unit, rule, out),
     }
 }
 
-fn tell_part(
-    explanation: &Explanation,
-    part: ExplainedPart,
-    out: &mut String,
-) -> Result<(), AllocError> {
-    let text = explanation.text.as_str();
+fn tell_part(text: &str, part: ExplainedPart, out: &mut AnswerText) {
     match part {
         ExplainedPart::Listing => tell_listing(text, out),
         ExplainedPart::Assembly => tell_assembly(text, out),
@@ -66,26 +63,26 @@ fn tell_part(
 }
 
 // Appends the lines of units, which begin with white space.
-fn tell_listing(text: &str, out: &mut String) -> Result<(), AllocError> {
+fn tell_listing(text: &str, out: &mut AnswerText) {
     for line in text.lines() {
         if line.starts_with(' ') {
-            write!(out, "\n{line}|")?;
+            out.push("\n");
+            out.push(line);
+            out.push("|");
         }
     }
-    Ok(())
 }
 
 // Appends the instruction in each line of a unit, without a helper's name.
-fn tell_assembly(text: &str, out: &mut String) -> Result<(), AllocError> {
+fn tell_assembly(text: &str, out: &mut AnswerText) {
     let mut is_first = true;
     for line in text.lines() {
         if line.starts_with(' ') && !line.starts_with("      #") {
-            out.push_str(if is_first { ": " } else { " ; " })?;
-            out.push_str(insn_in(line))?;
+            out.push(if is_first { ": " } else { " ; " });
+            out.push(insn_in(line));
             is_first = false;
         }
     }
-    Ok(())
 }
 
 // Returns the assembly in a line.
@@ -101,23 +98,21 @@ fn insn_in(line: &str) -> &str {
 }
 
 // Appends the first characters of the advice for a fault.
-fn tell_advice(text: &str, count: u32, out: &mut String) -> Result<(), AllocError> {
+fn tell_advice(text: &str, count: u32, out: &mut AnswerText) {
     for line in text.lines() {
         if !line.starts_with(' ') {
-            out.push_str(" ")?;
-            tell_front(line, count, out)?;
+            out.push(" ");
+            tell_front(line, count, out);
         }
     }
-    Ok(())
 }
 
-fn tell_front(line: &str, count: u32, out: &mut String) -> Result<(), AllocError> {
+fn tell_front(line: &str, count: u32, out: &mut AnswerText) {
     let mut left = count;
     for letter in line.chars() {
         if left > 0 {
-            out.push(letter)?;
+            out.show(&letter);
             left -= 1;
         }
     }
-    Ok(())
 }

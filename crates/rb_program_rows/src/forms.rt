@@ -1,9 +1,9 @@
 //! The predecoded operations of programs.
 
+use crate::answer_text::AnswerText;
 use crate::verified::verified;
 use rb_verifier::Operation;
-use std::alloc::{AllocError, Global};
-use std::fmt::Write;
+use std::alloc::Global;
 
 /// Writes how each operation of a verified program finds its operands, or why the program is refused, for a context of
 /// `ctx_len` bytes and this many rings.
@@ -12,36 +12,45 @@ pub(crate) fn answer_forms(
     ctx_len: u64,
     rings: u64,
     hex: &str,
-    out: &mut String,
-) -> Result<(), AllocError> {
-    let Some(verified) = verified(alloc, ctx_len, rings, hex, out)? else {
-        return Ok(());
-    };
-    out.push_str("forms")?;
-    for operation in verified.operations().0 {
-        out.push(' ')?;
-        tell_form(*operation, out)?;
+    out: &mut AnswerText,
+) {
+    if let Some(verified) = verified(alloc, ctx_len, rings, hex, out) {
+        out.push("forms");
+        for operation in verified.operations().0 {
+            out.push(" ");
+            tell_form(*operation, out);
+        }
     }
-    Ok(())
 }
 
 // Writes `stack:AT`, `context:AT` or `record:ID:AT` for an access whose first byte the operation names, `address` for
 // another load or store, `plain` for an instruction without a form of its own, and otherwise `own`.
-fn tell_form(operation: Operation, out: &mut String) -> Result<(), AllocError> {
+fn tell_form(operation: Operation, out: &mut AnswerText) {
     if let Some(at) = stack_byte(operation) {
-        return write!(out, "stack:{at}");
+        out.field("stack:", &at);
+    } else if let Some(at) = context_byte(operation) {
+        out.field("context:", &at);
+    } else if let Some((id, at)) = record_byte(operation) {
+        out.field("record:", &id);
+        out.field(":", &at);
+    } else {
+        out.push(kind_of(operation));
     }
-    if let Some(at) = context_byte(operation) {
-        return write!(out, "context:{at}");
-    }
-    if let Some((id, at)) = loaded_byte(operation).or(stored_byte(operation)) {
-        return write!(out, "record:{id}:{at}");
-    }
-    out.push_str(match operation {
+}
+
+fn kind_of(operation: Operation) -> &'static str {
+    match operation {
         Operation::Plain => "plain",
         operation if has_address(operation) => "address",
         _ => "own",
-    })
+    }
+}
+
+fn record_byte(operation: Operation) -> Option<(u16, u32)> {
+    match loaded_byte(operation) {
+        Some(byte) => Some(byte),
+        None => stored_byte(operation),
+    }
 }
 
 fn stack_byte(operation: Operation) -> Option<u16> {

@@ -8,6 +8,7 @@
 //! often. `row.rt` has the other rows. A line that is none of them is answered with its number.
 #![tactic(auto)]
 
+mod answer_text;
 mod arithmetic;
 mod assembly;
 mod bytes;
@@ -28,12 +29,13 @@ mod steps;
 mod verified;
 mod witness;
 
+use answer_text::AnswerText;
 use fault::ProgramRowsFault;
 use names::Names;
 use rb_command_line::Host;
 use std::alloc::Global;
 use std::fs::File;
-use std::io::{BufRead, BufReader, BufWriter, Eprint, Read, Write};
+use std::io::{self, Eprint, Read, Write};
 use std::process::ExitCode;
 use std::rt::Files;
 use std::sync::Wait;
@@ -41,7 +43,7 @@ use std::thread::Threads;
 use std::time::Clock;
 
 fn main(rt: HostRuntime) -> ExitCode {
-    match answer_all(&rt, rt.alloc(), rt.stdin(), &mut rt.stdout()) {
+    match run(&rt, rt.alloc(), &mut rt.stdin(), &mut rt.stdout()) {
         Ok(()) => ExitCode::from(0),
         Err(fault) => {
             let _ = eprintln!(rt; "{fault}");
@@ -51,39 +53,56 @@ fn main(rt: HostRuntime) -> ExitCode {
 }
 
 // Answers each line of the input.
-fn answer_all<
-    R: Threads + Wait + Sync + Files<File = File> + Clock + Eprint + Host,
-    I: Read + Drop,
-    W: Write,
->(rt: &R, alloc: Global, input: I, out: &mut W) -> Result<(), ProgramRowsFault> {
-    let mut names = Names::new(alloc);
-    let mut number: u64 = 0;
-    let mut out = BufWriter::new(alloc, out)?;
-    for line in BufReader::new(alloc, input)?.lines(alloc) {
-        number = number.wrapping_add(1);
-        answer_line(rt, alloc, &mut names, number, line?.as_str(), &mut out)?;
-    }
+fn run<R: Threads + Wait + Sync + Files<File = File> + Clock + Eprint + Host, I: Read, W: Write>(
+    rt: &R,
+    alloc: Global,
+    input: &mut I,
+    out: &mut W,
+) -> Result<(), ProgramRowsFault> {
+    let lines = io::read_to_string(alloc, input)?;
+    let answers = answers_of(rt, alloc, lines.as_str());
+    out.write_all(answers.as_str().as_bytes())?;
     out.flush()?;
-    Ok(())
+    if answers.is_complete() {
+        Ok(())
+    } else {
+        Err(ProgramRowsFault::Memory)
+    }
 }
 
-fn answer_line<R: Threads + Wait + Sync + Files<File = File> + Clock + Eprint + Host, W: Write>(
+fn answers_of<R: Threads + Wait + Sync + Files<File = File> + Clock + Eprint + Host>(
+    rt: &R,
+    alloc: Global,
+    lines: &str,
+) -> AnswerText {
+    let mut answers = AnswerText::new(alloc);
+    let mut names = Names::new(alloc);
+    let mut number: u64 = 0;
+    for line in lines.lines() {
+        number = number.wrapping_add(1);
+        answer_line(rt, alloc, &mut names, number, line, &mut answers);
+    }
+    answers
+}
+
+// Appends the answer to a line, unless it defines a name.
+fn answer_line<R: Threads + Wait + Sync + Files<File = File> + Clock + Eprint + Host>(
     rt: &R,
     alloc: Global,
     names: &mut Names,
     number: u64,
     line: &str,
-    out: &mut W,
-) -> Result<(), ProgramRowsFault> {
-    let mut text = String::new(alloc);
+    answers: &mut AnswerText,
+) {
     if line.is_empty() || line.starts_with('#') {
-        text.push_str(line)?;
-    } else if !names.keep(alloc, line)? {
-        let line = names.in_place(alloc, line)?;
-        row::answer(rt, alloc, number, line.as_str(), &mut text)?;
-    } else {
-        return Ok(());
+        answers.push(line);
+        answers.push("\n");
+    } else if !names.keep(alloc, line, answers) {
+        let line = names.in_place(alloc, line);
+        row::answer(rt, alloc, number, line.as_str(), answers);
+        if !line.is_complete() {
+            answers.lack();
+        }
+        answers.push("\n");
     }
-    writeln!(out, "{text}")?;
-    Ok(())
 }

@@ -1,7 +1,7 @@
 //! Named texts.
 
-use crate::fault::ProgramRowsFault;
-use std::alloc::{AllocError, Global};
+use crate::answer_text::AnswerText;
+use std::alloc::Global;
 use std::collections::BTreeMap;
 
 /// Texts by their names.
@@ -19,50 +19,81 @@ impl Names {
     }
 
     /// Defines the text of a line `name WORD TEXT` or `repeat WORD COUNT TEXT`. Returns false if the line is neither.
-    pub(crate) fn keep(&mut self, alloc: Global, line: &str) -> Result<bool, ProgramRowsFault> {
-        let Some((name, count, text)) = kept(line) else {
-            return Ok(false);
-        };
-        let text = self.in_place(alloc, text)?;
-        let mut all = String::new(alloc);
-        for _ in 0..count {
-            all.push_str(text.as_str())?;
+    /// The answer is incomplete if there is no memory for the text.
+    pub(crate) fn keep(&mut self, alloc: Global, line: &str, out: &mut AnswerText) -> bool {
+        match kept(line) {
+            Some((name, count, text)) => {
+                let text = self.in_place(alloc, text);
+                self.define(alloc, name, &repeated(alloc, &text, count), out);
+                true
+            }
+            None => false,
         }
-        let _ = self.texts.insert(String::from_str(alloc, name)?, all)?;
-        Ok(true)
+    }
+
+    // Defines the text of a name.
+    fn define(&mut self, alloc: Global, name: &str, text: &AnswerText, out: &mut AnswerText) {
+        let kept = match (
+            String::from_str(alloc, name),
+            String::from_str(alloc, text.as_str()),
+        ) {
+            (Ok(name), Ok(text)) => self.texts.insert(name, text).is_ok(),
+            _ => false,
+        };
+        if !kept || !text.is_complete() {
+            out.lack();
+        }
     }
 
     /// Returns a line with each name in braces replaced by its text. An undefined name is left as it is.
-    pub(crate) fn in_place(&self, alloc: Global, line: &str) -> Result<String, AllocError> {
-        let mut text = String::new(alloc);
+    pub(crate) fn in_place(&self, alloc: Global, line: &str) -> AnswerText {
+        let mut text = AnswerText::new(alloc);
         let mut is_first = true;
         for part in line.split('{') {
             if is_first {
-                text.push_str(part)?;
+                text.push(part);
             } else {
-                self.push_named(part, &mut text)?;
+                self.push_named(part, &mut text);
             }
             is_first = false;
         }
-        Ok(text)
+        text
     }
 
     // Appends what follows a brace, with its name replaced.
-    fn push_named(&self, part: &str, text: &mut String) -> Result<(), AllocError> {
-        let Some((name, rest)) = part.split_once('}') else {
-            text.push_str("{")?;
-            return text.push_str(part);
-        };
-        match self.texts.get(name) {
-            Some(named) => text.push_str(named.as_str())?,
+    fn push_named(&self, part: &str, text: &mut AnswerText) {
+        match part.split_once('}') {
+            Some((name, rest)) => {
+                self.push_name(name, text);
+                text.push(rest);
+            }
             None => {
-                text.push_str("{")?;
-                text.push_str(name)?;
-                text.push_str("}")?;
+                text.push("{");
+                text.push(part);
             }
         }
-        text.push_str(rest)
     }
+
+    // Appends the text of a name.
+    fn push_name(&self, name: &str, text: &mut AnswerText) {
+        match self.texts.get(name) {
+            Some(named) => text.push(named.as_str()),
+            None => {
+                text.push("{");
+                text.push(name);
+                text.push("}");
+            }
+        }
+    }
+}
+
+// Returns a text, repeated this often.
+fn repeated(alloc: Global, text: &AnswerText, count: u32) -> AnswerText {
+    let mut all = AnswerText::new(alloc);
+    for _ in 0..count {
+        all.add(text);
+    }
+    all
 }
 
 // Returns the name that a line defines, how often its text is repeated, and the text.

@@ -1,5 +1,32 @@
 //! The rows, and the call that answers each.
+//!
+//! ```text
+//! units HEX                       bytes to a program and back
+//! decode HEX                      the instructions of a program
+//! at UNIT HEX                     the instruction that begins at a unit
+//! text TEXT                       the program in a text with escapes
+//! shape HEX                       the shape of a program
+//! edges UNIT HEX                  the next unit after an instruction at a unit, and the target of its jump
+//! verify CONTEXT RINGS HEX        verification for this context length and number of rings
+//! cost CONTEXT RINGS HEX          the maximum cost of a verified program
+//! forms CONTEXT RINGS HEX         how each operation of a verified program finds its operands
+//! run CONTEXT RINGS BYTES ANSWERS HEX
+//!                                 a run with this context (`-` if it is empty), with helpers that answer from a list
+//! compute DST SRC HEX             the result of an instruction for two numbers
+//! assembly HEX                    a program as assembly
+//! listing CONTEXT RINGS HEX       part of a program's explanation, as in the next two
+//! explained CONTEXT RINGS HEX
+//! advice CONTEXT RINGS COUNT HEX
+//! step CONTEXT RINGS UNIT STATE HEX
+//! step-in-place CONTEXT RINGS UNIT STATE HEX
+//!                                 a step of the verifier
+//! join STATE STATE                what two states have in common
+//! rbhost WORDS < TEXT             a command line of `rbhost` with an input, also as `rbhost WORDS : HEX`
+//! helper NUMBER                   the helper with a number
+//! register NUMBER                 the register with a number
+//! ```
 
+use crate::answer_text::AnswerText;
 use crate::arithmetic::answer_compute;
 use crate::assembly::answer_assembly;
 use crate::command_lines::answer_command_line;
@@ -15,8 +42,7 @@ use crate::verified::answer_verify;
 use rb_command_line::Host;
 use rb_insn::Reg;
 use rb_verifier::{Helper, Limits};
-use std::alloc::{AllocError, Global};
-use std::fmt::Write;
+use std::alloc::Global;
 use std::fs::File;
 use std::io::Eprint;
 use std::rt::Files;
@@ -24,179 +50,172 @@ use std::sync::Wait;
 use std::thread::Threads;
 use std::time::Clock;
 
-#[derive(Clone, Copy)]
-enum ProgramRow<'a> {
-    // `units HEX`: bytes to a program and back.
-    Units(&'a str),
-    // `decode HEX`: the instructions of a program.
-    Decode(&'a str),
-    // `at UNIT HEX`: the instruction that begins at a unit.
-    At(u32, &'a str),
-    // `text TEXT`: the program in a text with escapes.
-    Text(&'a str),
-    // `shape HEX`: the shape of a program.
-    Shape(&'a str),
-    // `edges UNIT HEX`: the next unit after an instruction at a unit, and the target of its jump.
-    Edges(u32, &'a str),
-    // `verify CONTEXT RINGS HEX`: verification for this context length and number of rings.
-    Verify(u64, u64, &'a str),
-    // `cost CONTEXT RINGS HEX`: the maximum cost of a verified program.
-    Cost(u64, u64, &'a str),
-    // `forms CONTEXT RINGS HEX`: how each operation of a verified program finds its operands.
-    Forms(u64, u64, &'a str),
-    // `run CONTEXT RINGS BYTES ANSWERS HEX`: a run with this context (`-` if it is empty), with helpers that answer
-    // from a list.
-    Run((u64, u64), &'a str, &'a str, &'a str),
-    // `compute DST SRC HEX`: the result of an instruction for two numbers.
-    Compute(u64, u64, &'a str),
-    // `assembly HEX`: a program as assembly.
-    Assembly(&'a str),
-    // `listing CONTEXT RINGS HEX`, `explained ..` and `advice CONTEXT RINGS COUNT HEX`: part of a program's
-    // explanation.
-    Explain((u64, u64), ExplainedPart, &'a str),
-    // `step CONTEXT RINGS UNIT STATE HEX` and `step-in-place ..`: a step of the verifier.
-    Step((Way, Limits, u32), &'a str, &'a str),
-    // `join STATE STATE`: what two states have in common.
-    Join(&'a str, &'a str),
-    // `rbhost WORDS < TEXT` or `rbhost WORDS : HEX`: a command line of `rbhost` with an input.
-    CommandLine(&'a str),
-    // `helper NUMBER`: the helper with a number.
-    Helper(u64),
-    // `register NUMBER`: the register with a number.
-    Register(u64),
-}
-
 /// Answers the row of a line. A line that is not a row is answered with its number.
 pub(crate) fn answer<R: Threads + Wait + Sync + Files<File = File> + Clock + Eprint + Host>(
     rt: &R,
     alloc: Global,
     number: u64,
     line: &str,
-    out: &mut String,
-) -> Result<(), AllocError> {
-    match row_of(line) {
-        Some(row) => answer_row(rt, alloc, row, out),
-        None => write!(out, "line {number}: no row"),
+    out: &mut AnswerText,
+) {
+    let (word, rest) = line.split_once(' ').unwrap_or(("", ""));
+    if word == "rbhost" {
+        answer_command_line(rt, alloc, rest, out);
+    } else if !is_answered(alloc, word, rest, out) {
+        out.field("line ", &number);
+        out.push(": no row");
     }
 }
 
-fn row_of(line: &str) -> Option<ProgramRow<'_>> {
-    let (word, rest) = line.split_once(' ')?;
+// Answers a row that is no command line. Returns false if the words are not a row.
+fn is_answered(alloc: Global, word: &str, rest: &str, out: &mut AnswerText) -> bool {
+    is_program(alloc, word, rest, out)
+        || is_unit(alloc, word, rest, out)
+        || is_bounded(alloc, word, rest, out)
+        || is_explanation(alloc, word, rest, out)
+        || is_step(alloc, word, rest, out)
+        || is_number(word, rest, out)
+}
+
+// Answers a row of a program alone.
+fn is_program(alloc: Global, word: &str, hex: &str, out: &mut AnswerText) -> bool {
     match word {
-        "units" => Some(ProgramRow::Units(rest)),
-        "decode" => Some(ProgramRow::Decode(rest)),
-        "at" => {
-            let (unit, hex) = unit_and_rest(rest)?;
-            Some(ProgramRow::At(unit, hex))
+        "units" => answer_units(alloc, hex, out),
+        "decode" => answer_decode(alloc, hex, out),
+        "text" => answer_text(alloc, hex, out),
+        "shape" => answer_shape(alloc, hex, out),
+        "assembly" => answer_assembly(alloc, hex, out),
+        _ => return false,
+    }
+    true
+}
+
+// Answers a row of a unit and a program.
+fn is_unit(alloc: Global, word: &str, rest: &str, out: &mut AnswerText) -> bool {
+    match (word, unit_and_rest(rest)) {
+        ("at", Some((unit, hex))) => answer_at(alloc, unit, hex, out),
+        ("edges", Some((unit, hex))) => answer_edges(alloc, unit, hex, out),
+        _ => return false,
+    }
+    true
+}
+
+// Answers a row of two numbers and a program.
+fn is_bounded(alloc: Global, word: &str, rest: &str, out: &mut AnswerText) -> bool {
+    let Some((first, second, rest)) = two_numbers_and_rest(rest) else {
+        return false;
+    };
+    match word {
+        "verify" => answer_verify(alloc, first, second, rest, out),
+        "cost" => answer_cost(alloc, first, second, rest, out),
+        "forms" => answer_forms(alloc, first, second, rest, out),
+        "compute" => answer_compute(alloc, first, second, rest, out),
+        "run" => return is_run(alloc, first, second, rest, out),
+        _ => return false,
+    }
+    true
+}
+
+fn is_run(alloc: Global, ctx_len: u64, rings: u64, words: &str, out: &mut AnswerText) -> bool {
+    let (context, rest) = words.split_once(' ').unwrap_or(("", ""));
+    match rest.split_once(' ') {
+        Some((answers, hex)) => {
+            let context = if context == "-" { "" } else { context };
+            answer_run(alloc, ctx_len, rings, (context, answers, hex), out);
+            true
         }
-        "text" => Some(ProgramRow::Text(rest)),
-        "shape" => Some(ProgramRow::Shape(rest)),
-        "edges" => {
-            let (unit, hex) = unit_and_rest(rest)?;
-            Some(ProgramRow::Edges(unit, hex))
+        None => false,
+    }
+}
+
+// Answers a row for part of an explanation.
+fn is_explanation(alloc: Global, word: &str, rest: &str, out: &mut AnswerText) -> bool {
+    let Some((ctx_len, rings, rest)) = two_numbers_and_rest(rest) else {
+        return false;
+    };
+    match part_of(word, rest) {
+        Some((part, hex)) => {
+            answer_explain(alloc, ctx_len, rings, part, hex, out);
+            true
         }
-        "verify" => {
-            let (ctx_len, rings, hex) = two_numbers_and_rest(rest)?;
-            Some(ProgramRow::Verify(ctx_len, rings, hex))
-        }
-        "cost" => {
-            let (ctx_len, rings, hex) = two_numbers_and_rest(rest)?;
-            Some(ProgramRow::Cost(ctx_len, rings, hex))
-        }
-        "forms" => {
-            let (ctx_len, rings, hex) = two_numbers_and_rest(rest)?;
-            Some(ProgramRow::Forms(ctx_len, rings, hex))
-        }
-        "run" => run_of(rest),
-        "assembly" => Some(ProgramRow::Assembly(rest)),
-        "listing" => {
-            let (ctx_len, rings, hex) = two_numbers_and_rest(rest)?;
-            Some(ProgramRow::Explain((ctx_len, rings), ExplainedPart::Listing, hex))
-        }
-        "explained" => {
-            let (ctx_len, rings, hex) = two_numbers_and_rest(rest)?;
-            Some(ProgramRow::Explain((ctx_len, rings), ExplainedPart::Assembly, hex))
-        }
-        "advice" => {
-            let (ctx_len, rings, rest) = two_numbers_and_rest(rest)?;
-            let (count, hex) = unit_and_rest(rest)?;
-            Some(ProgramRow::Explain((ctx_len, rings), ExplainedPart::Advice(count), hex))
-        }
-        "compute" => {
-            let (dst, src, hex) = two_numbers_and_rest(rest)?;
-            Some(ProgramRow::Compute(dst, src, hex))
-        }
-        "step" => step_of(Way::Copied, rest),
-        "step-in-place" => step_of(Way::InPlace, rest),
-        "join" => {
-            let (first, second) = rest.split_once(' ')?;
-            Some(ProgramRow::Join(first, second))
-        }
-        "rbhost" => Some(ProgramRow::CommandLine(rest)),
-        "helper" => Some(ProgramRow::Helper(number_of(rest)?)),
-        "register" => Some(ProgramRow::Register(number_of(rest)?)),
+        None => false,
+    }
+}
+
+// Returns the part of the explanation of a program that a row asks for, and the program.
+fn part_of<'a>(word: &str, rest: &'a str) -> Option<(ExplainedPart, &'a str)> {
+    match (word, unit_and_rest(rest)) {
+        ("listing", _) => Some((ExplainedPart::Listing, rest)),
+        ("explained", _) => Some((ExplainedPart::Assembly, rest)),
+        ("advice", Some((count, hex))) => Some((ExplainedPart::Advice(count), hex)),
         _ => None,
     }
 }
 
-fn run_of(words: &str) -> Option<ProgramRow<'_>> {
-    let (ctx_len, rings, rest) = two_numbers_and_rest(words)?;
-    let (context, rest) = rest.split_once(' ')?;
-    let (answers, hex) = rest.split_once(' ')?;
-    let context = if context == "-" { "" } else { context };
-    Some(ProgramRow::Run((ctx_len, rings), context, answers, hex))
+// Answers a row of states.
+fn is_step(alloc: Global, word: &str, rest: &str, out: &mut AnswerText) -> bool {
+    match word {
+        "step" => is_step_of(alloc, Way::Copied, rest, out),
+        "step-in-place" => is_step_of(alloc, Way::InPlace, rest, out),
+        "join" => is_join(alloc, rest, out),
+        _ => false,
+    }
 }
 
-fn step_of(way: Way, words: &str) -> Option<ProgramRow<'_>> {
+fn is_step_of(alloc: Global, way: Way, words: &str, out: &mut AnswerText) -> bool {
+    match step_words(words) {
+        Some((limits, unit, state, hex)) => {
+            answer_step(alloc, (way, limits, unit), state, hex, out);
+            true
+        }
+        None => false,
+    }
+}
+
+// Returns the limits of a step, its unit, its state and its program.
+fn step_words(words: &str) -> Option<(Limits, u32, &str, &str)> {
     let (ctx_len, rest) = unit_and_rest(words)?;
     let (rings, rest) = unit_and_rest(rest)?;
     let (unit, rest) = unit_and_rest(rest)?;
     let (state, hex) = rest.split_once(' ')?;
-    Some(ProgramRow::Step((way, Limits { ctx_len, rings }, unit), state, hex))
+    Some((Limits { ctx_len, rings }, unit, state, hex))
 }
 
-fn answer_row<R: Threads + Wait + Sync + Files<File = File> + Clock + Eprint + Host>(
-    rt: &R,
-    alloc: Global,
-    row: ProgramRow<'_>,
-    out: &mut String,
-) -> Result<(), AllocError> {
-    match row {
-        ProgramRow::Units(hex) => answer_units(alloc, hex, out),
-        ProgramRow::Decode(hex) => answer_decode(alloc, hex, out),
-        ProgramRow::At(unit, hex) => answer_at(alloc, unit, hex, out),
-        ProgramRow::Text(text) => answer_text(alloc, text, out),
-        ProgramRow::Shape(hex) => answer_shape(alloc, hex, out),
-        ProgramRow::Edges(unit, hex) => answer_edges(alloc, unit, hex, out),
-        ProgramRow::Verify(ctx_len, rings, hex) => answer_verify(alloc, ctx_len, rings, hex, out),
-        ProgramRow::Cost(ctx_len, rings, hex) => answer_cost(alloc, ctx_len, rings, hex, out),
-        ProgramRow::Forms(ctx_len, rings, hex) => answer_forms(alloc, ctx_len, rings, hex, out),
-        ProgramRow::Run(bounds, context, answers, hex) => {
-            answer_run(alloc, bounds, context, answers, hex, out)
+fn is_join(alloc: Global, words: &str, out: &mut AnswerText) -> bool {
+    match words.split_once(' ') {
+        Some((first, second)) => {
+            answer_join(alloc, first, second, out);
+            true
         }
-        ProgramRow::Assembly(hex) => answer_assembly(alloc, hex, out),
-        ProgramRow::Explain(bounds, part, hex) => answer_explain(alloc, bounds, part, hex, out),
-        ProgramRow::Compute(dst, src, hex) => answer_compute(alloc, dst, src, hex, out),
-        ProgramRow::Step(step, state, hex) => answer_step(alloc, step, state, hex, out),
-        ProgramRow::Join(first, second) => answer_join(alloc, first, second, out),
-        ProgramRow::CommandLine(line) => answer_command_line(rt, alloc, line, out),
-        ProgramRow::Helper(number) => answer_helper(number, out),
-        ProgramRow::Register(number) => answer_register(number, out),
+        None => false,
     }
 }
 
-fn answer_helper(number: u64, out: &mut String) -> Result<(), AllocError> {
+// Answers a row of one number.
+fn is_number(word: &str, rest: &str, out: &mut AnswerText) -> bool {
+    match (word, number_of(rest)) {
+        ("helper", Some(number)) => answer_helper(number, out),
+        ("register", Some(number)) => answer_register(number, out),
+        _ => return false,
+    }
+    true
+}
+
+fn answer_helper(number: u64, out: &mut AnswerText) {
     let number = u32::try_from(number).unwrap_or(u32::MAX);
     match Helper::from_number(number) {
-        Some(helper) => write!(out, "{helper:?} {}", helper.number()),
-        None => out.push_str("none"),
+        Some(helper) => {
+            out.debug(&helper);
+            out.field(" ", &helper.number());
+        }
+        None => out.push("none"),
     }
 }
 
-fn answer_register(number: u64, out: &mut String) -> Result<(), AllocError> {
+fn answer_register(number: u64, out: &mut AnswerText) {
     let number = u8::try_from(number).unwrap_or(u8::MAX);
     match Reg::new(number) {
-        Some(register) => write!(out, "register {}", register.index()),
-        None => out.push_str("none"),
+        Some(register) => out.field("register ", &register.index()),
+        None => out.push("none"),
     }
 }

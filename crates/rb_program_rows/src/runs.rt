@@ -1,54 +1,94 @@
 //! Runs of verified programs, with helpers that answer from a list.
 
+use crate::answer_text::AnswerText;
 use crate::bytes::bytes_of;
+use crate::decoded::tell_hex;
 use crate::verified::verified;
 use crate::witness::Witness;
-use rb_interp::{Helpers, Listed, run};
+use rb_interp::{Helpers, Listed, RunFault, run};
+use rb_verifier::Verified;
 use std::alloc::{AllocError, Global};
-use std::fmt::Write;
 
 /// Writes the result of a program's run, the calls that it made, and the bytes of the records that were submitted
 /// or discarded. The program is verified for a context of `ctx_len` bytes and this many rings, and run with this
-/// context. Each call uses the next answer of the list, `y` or `n`.
+/// context, in hex. Each call uses the next answer of the list, `y` or `n`.
 pub(crate) fn answer_run(
     alloc: Global,
-    (ctx_len, rings): (u64, u64),
-    context: &str,
+    ctx_len: u64,
+    rings: u64,
+    words: (&str, &str, &str),
+    out: &mut AnswerText,
+) {
+    let (context, answers, hex) = words;
+    match bytes_of(alloc, context) {
+        Ok(Some(context)) => {
+            if let Some(program) = verified(alloc, ctx_len, rings, hex, out) {
+                tell_run(alloc, &program, context.as_slice(), answers, out);
+            }
+        }
+        Ok(None) => out.push("no context"),
+        Err(_) => out.lack(),
+    }
+}
+
+fn tell_run(
+    alloc: Global,
+    program: &Verified,
+    context: &[u8],
     answers: &str,
-    hex: &str,
-    out: &mut String,
-) -> Result<(), AllocError> {
-    let Some(context) = bytes_of(alloc, context)? else {
-        return out.push_str("no context");
-    };
-    let Some(program) = verified(alloc, ctx_len, rings, hex, out)? else {
-        return Ok(());
-    };
+    out: &mut AnswerText,
+) {
+    match helpers_of(alloc, answers) {
+        Ok(mut helpers) => tell_run_with(alloc, program, context, &mut helpers, out),
+        Err(_) => out.lack(),
+    }
+}
+
+// Returns helpers that give these answers.
+fn helpers_of(alloc: Global, answers: &str) -> Result<Witness, AllocError> {
     let answers = answers
         .as_bytes()
         .iter()
         .map(|answer| *answer == b'y')
         .collect(alloc)?;
-    let mut helpers = Witness::new(alloc, Listed::new(alloc, answers)?);
-    if program.calls() > helpers.room() {
-        return out.push_str("too few answers");
-    }
-    match run(&program, context.as_slice(), &mut helpers) {
-        Ok(result) => write!(out, "result {result:#x}")?,
-        Err(fault) => write!(out, "fault {fault:?}")?,
-    }
-    tell_calls(alloc, &helpers, out)
+    Ok(Witness::new(alloc, Listed::new(alloc, answers)?))
 }
 
-// Appends the calls that were made, and the bytes that were submitted or discarded.
-fn tell_calls(alloc: Global, helpers: &Witness, out: &mut String) -> Result<(), AllocError> {
+fn tell_run_with(
+    alloc: Global,
+    program: &Verified,
+    context: &[u8],
+    helpers: &mut Witness,
+    out: &mut AnswerText,
+) {
+    if program.calls() > helpers.room() {
+        return out.push("too few answers");
+    }
+    tell_result(run(program, context, helpers), out);
     for done in helpers.trace() {
-        write!(out, "; {done:?}")?;
+        out.push("; ");
+        out.debug(done);
     }
-    let bytes = helpers.bytes();
-    if bytes.is_empty() {
-        return Ok(());
+    tell_bytes(alloc, helpers.bytes(), out);
+}
+
+fn tell_result(answer: Result<u64, RunFault>, out: &mut AnswerText) {
+    match answer {
+        Ok(number) => {
+            out.push("result ");
+            out.hex(number);
+        }
+        Err(fault) => {
+            out.push("fault ");
+            out.debug(&fault);
+        }
     }
-    let digits = hex::encode(alloc, bytes)?;
-    write!(out, "; bytes {digits}")
+}
+
+// Appends the bytes that were submitted or discarded.
+fn tell_bytes(alloc: Global, bytes: &[u8], out: &mut AnswerText) {
+    if !bytes.is_empty() {
+        out.push("; bytes ");
+        tell_hex(alloc, bytes, out);
+    }
 }

@@ -1,65 +1,60 @@
 //! Changes of a verifier state.
 
-use rb_verifier::{Abs, AbsState};
-use std::alloc::AllocError;
-use std::fmt::{self, Formatter, Write};
+use crate::answer_text::AnswerText;
+use rb_verifier::{Abs, AbsState, Reference};
 
-/// A value, as rows write it.
-#[derive(Clone, Copy)]
-struct Word(Abs);
-
-impl fmt::Display for Word {
-    fn fmt<W: fmt::Write>(&self, f: &mut Formatter<W>) -> fmt::Result {
-        match self.0 {
-            Abs::Unreadable => write!(f, "nothing"),
-            Abs::Number => write!(f, "number"),
-            Abs::Known(number) => write!(f, "known:{number}"),
-            Abs::Ctx(offset) => write!(f, "context:{offset}"),
-            Abs::Stack(offset) => write!(f, "stack:{offset}"),
-            Abs::Ring(ring) => write!(f, "ring:{ring}"),
-            Abs::Perhaps(id) => write!(f, "perhaps:{id}"),
-            Abs::Record(id, offset) => write!(f, "record:{id}:{offset}"),
+// Appends a value, as rows write it.
+fn tell_value(value: Abs, out: &mut AnswerText) {
+    match value {
+        Abs::Unreadable => out.push("nothing"),
+        Abs::Number => out.push("number"),
+        Abs::Known(number) => out.field("known:", &number),
+        Abs::Ctx(offset) => out.field("context:", &offset),
+        Abs::Stack(offset) => out.field("stack:", &offset),
+        Abs::Ring(ring) => out.field("ring:", &ring),
+        Abs::Perhaps(id) => out.field("perhaps:", &id),
+        Abs::Record(id, offset) => {
+            out.field("record:", &id);
+            out.field(":", &offset);
         }
     }
 }
 
 /// Appends each register, each slot of the stack and the references in which a state differs from the one before, or
 /// nothing if none does.
-pub(crate) fn tell_changes(
-    before: &AbsState,
-    state: &AbsState,
-    out: &mut String,
-) -> Result<(), AllocError> {
+pub(crate) fn tell_changes(before: &AbsState, state: &AbsState, out: &mut AnswerText) {
     for register in 0..11 {
         let value = state.values[register];
         if value != before.values[register] {
-            write!(out, " r{register}={}", Word(value))?;
+            tell_change(" r", register as u64, value, out);
         }
     }
     for place in 0..64 {
         let value = state.places.get(place);
         if value != before.places.get(place) {
-            write!(out, " p{place}={}", Word(value))?;
+            tell_change(" p", place, value, out);
         }
     }
-    if state.held.as_slice() == before.held.as_slice() {
-        return Ok(());
+    if state.held.as_slice() != before.held.as_slice() {
+        tell_held(state.held.as_slice(), out);
     }
-    tell_held(state, out)
+}
+
+fn tell_change(kind: &str, number: u64, value: Abs, out: &mut AnswerText) {
+    out.field(kind, &number);
+    out.push("=");
+    tell_value(value, out);
 }
 
 // Appends the references that are held.
-fn tell_held(state: &AbsState, out: &mut String) -> Result<(), AllocError> {
-    if state.held.as_slice().is_empty() {
-        return out.push_str(" holds=none");
+fn tell_held(held: &[Reference], out: &mut AnswerText) {
+    if held.is_empty() {
+        out.push(" holds=none");
     }
-    for reference in state.held.as_slice() {
-        let tested = if reference.sure { "sure" } else { "perhaps" };
-        write!(
-            out,
-            " holds={}:{}:{}:{tested}",
-            reference.id, reference.ring, reference.size
-        )?;
+    for reference in held {
+        out.field(" holds=", &reference.id);
+        out.field(":", &reference.ring);
+        out.field(":", &reference.size);
+        out.push(if reference.sure { ":sure" } else { ":perhaps" });
     }
-    Ok(())
 }

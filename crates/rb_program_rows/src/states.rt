@@ -3,53 +3,75 @@
 ghost use Rattle.std.specs.Prelude.{◌≤◌, ◌<◌, IsTrue, length};
 ghost use Rattle.rb_verifier.specs.References.{AreEarlier};
 
+use crate::answer_text::AnswerText;
 use crate::numbers::number_of;
-use rb_verifier::{Abs, AbsState, Held, Reference};
-use std::alloc::{AllocError, Global};
+use rb_verifier::{Abs, AbsState, Held, Places, Reference};
+use std::alloc::Global;
 
 /// Parses a state: `entry`, or assignments to it, separated by commas. Returns `None` if one is not an assignment.
 /// `r3=VALUE` is a register, `p63=VALUE` a slot of the stack without a known number, and `holds=ID:RING:SIZE:sure` or
-/// `..:perhaps` a reference.
-pub(crate) fn state_of(alloc: Global, word: &str) -> Result<Option<AbsState>, AllocError> {
+/// `..:perhaps` a reference. If there is no memory for a slot, there is no state, and the answer is incomplete.
+pub(crate) fn state_of(alloc: Global, word: &str, out: &mut AnswerText) -> Option<AbsState> {
     let mut state = AbsState::entry(alloc);
-    if word == "entry" {
-        return Ok(Some(state));
+    if word == "entry" || assign_all(&mut state, word, out) {
+        Some(state)
+    } else {
+        None
     }
-    for assignment in word.split(',') {
-        if !assign(&mut state, assignment)? {
-            return Ok(None);
-        }
+}
+
+// Performs assignments up to the first word that is none. Returns whether all words are assignments.
+fn assign_all(state: &mut AbsState, words: &str, out: &mut AnswerText) -> bool {
+    let mut are_assignments = true;
+    for word in words.split(',') {
+        are_assignments = are_assignments && assign(state, word, out);
     }
-    Ok(Some(state))
+    are_assignments
 }
 
 // Performs an assignment. Returns false if the word is none.
-fn assign(state: &mut AbsState, word: &str) -> Result<bool, AllocError> {
-    let Some((name, value)) = word.split_once('=') else {
-        return Ok(false);
-    };
+fn assign(state: &mut AbsState, word: &str, out: &mut AnswerText) -> bool {
+    let (name, value) = word.split_once('=').unwrap_or(("", ""));
     if name == "holds" {
-        return Ok(hold(&mut state.held, value));
+        return hold(&mut state.held, value);
     }
-    let Some(value) = value_of(value) else {
-        return Ok(false);
-    };
+    match value_of(value) {
+        Some(value) => put(state, name, value, out),
+        None => false,
+    }
+}
+
+// Assigns a value to a register or a slot of the stack. Returns false if the name is of neither.
+fn put(state: &mut AbsState, name: &str, value: Abs, out: &mut AnswerText) -> bool {
     if let Some(number) = name.strip_prefix('r') {
-        return Ok(put(&mut state.values, number, value));
+        put_register(&mut state.values, number, value)
+    } else if let Some(number) = name.strip_prefix('p') {
+        put_place(&mut state.places, number, value, out)
+    } else {
+        false
     }
-    let place = name
-        .strip_prefix('p')
-        .and_then(number_of)
-        .unwrap_or(u64::MAX);
+}
+
+// Assigns a value to a slot of the stack. Returns false if the slot does not exist or the value is a known number.
+fn put_place(places: &mut Places, number: &str, value: Abs, out: &mut AnswerText) -> bool {
+    let place = number_of(number).unwrap_or(u64::MAX);
     if place > 63 || matches!(value, Abs::Known(_)) {
-        return Ok(false);
+        return false;
     }
-    state.places = state.places.with_place(place, value)?;
-    Ok(true)
+    match places.with_place(place, value) {
+        Ok(changed) => {
+            *places = changed;
+            true
+        }
+        Err(_) => {
+            out.lack();
+            false
+        }
+    }
 }
 
 // Assigns a value to a register. Returns false if the register does not exist.
-fn put(values: &mut [Abs; 11], number: &str, value: Abs) -> bool {
+fn put_register(values: &mut [Abs; 11], number: &str, value: Abs) -> bool {
     match number.parse::<usize>() {
         Ok(number) if number < 11 => {
             values[number] = value;

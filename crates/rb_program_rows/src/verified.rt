@@ -2,12 +2,12 @@
 
 ghost use Rattle.std.specs.Prelude.{◌≤◌};
 
+use crate::answer_text::AnswerText;
 use crate::decoded::tell_text_fault;
 use crate::shapes::tell_shape_fault;
-use rb_program::{from_text, shape};
-use rb_verifier::{Refusal, Verified, verify};
-use std::alloc::{AllocError, Global};
-use std::fmt::Write;
+use rb_program::{Program, Shape, from_text, shape};
+use rb_verifier::{Refusal, Rule, Verified, verify};
+use std::alloc::Global;
 
 /// Writes the properties of a verified program, or why the program is refused, for a context of `ctx_len` bytes
 /// and this many rings.
@@ -16,18 +16,13 @@ pub(crate) fn answer_verify(
     ctx_len: u64,
     rings: u64,
     hex: &str,
-    out: &mut String,
-) -> Result<(), AllocError> {
-    match verified(alloc, ctx_len, rings, hex, out)? {
-        Some(verified) => write!(
-            out,
-            "accepted units {} calls {} context {} rings {}",
-            verified.program().units(),
-            verified.calls(),
-            verified.ctx_len(),
-            verified.rings()
-        ),
-        None => Ok(()),
+    out: &mut AnswerText,
+) {
+    if let Some(verified) = verified(alloc, ctx_len, rings, hex, out) {
+        out.field("accepted units ", &verified.program().units());
+        out.field(" calls ", &verified.calls());
+        out.field(" context ", &verified.ctx_len());
+        out.field(" rings ", &verified.rings());
     }
 }
 
@@ -37,40 +32,68 @@ pub(crate) fn verified(
     ctx_len: u64,
     rings: u64,
     hex: &str,
-    out: &mut String,
-) -> Result<Option<Verified>, AllocError> {
+    out: &mut AnswerText,
+) -> Option<Verified> {
     if ctx_len > 65_536 || rings > 16 {
-        out.push_str("out of bounds")?;
-        return Ok(None);
+        out.push("out of bounds");
+        return None;
     }
-    let program = match from_text(alloc, hex) {
-        Ok(program) => program,
+    match from_text(alloc, hex) {
+        Ok(program) => verified_program(alloc, program, ctx_len as u32, rings as u32, out),
         Err(fault) => {
-            tell_text_fault(fault, out)?;
-            return Ok(None);
-        }
-    };
-    let shape = match shape(alloc, program) {
-        Ok(shape) => shape,
-        Err(fault) => {
-            tell_shape_fault(fault, out)?;
-            return Ok(None);
-        }
-    };
-    match verify(alloc, shape, ctx_len as u32, rings as u32) {
-        Ok(verified) => Ok(Some(verified)),
-        Err(refusal) => {
-            tell_refusal(refusal, out)?;
-            Ok(None)
+            tell_text_fault(fault, out);
+            None
         }
     }
 }
 
-fn tell_refusal(refusal: Refusal, out: &mut String) -> Result<(), AllocError> {
-    match refusal {
-        Refusal::Rule { unit, rule } => {
-            write!(out, "refused verify V{} unit {unit}", rule.number())
+fn verified_program(
+    alloc: Global,
+    program: Program,
+    ctx_len: u32,
+    rings: u32,
+    out: &mut AnswerText,
+) -> Option<Verified>
+    requires context { ctx_len ≤ 65536 }
+    requires rings { rings ≤ 16 }
+{
+    match shape(alloc, program) {
+        Ok(shape) => verified_shape(alloc, shape, ctx_len, rings, out),
+        Err(fault) => {
+            tell_shape_fault(fault, out);
+            None
         }
-        Refusal::Memory => out.push_str("refused memory"),
     }
+}
+
+fn verified_shape(
+    alloc: Global,
+    shape: Shape,
+    ctx_len: u32,
+    rings: u32,
+    out: &mut AnswerText,
+) -> Option<Verified>
+    requires context { ctx_len ≤ 65536 }
+    requires rings { rings ≤ 16 }
+{
+    match verify(alloc, shape, ctx_len, rings) {
+        Ok(verified) => Some(verified),
+        Err(refusal) => {
+            tell_refusal(refusal, out);
+            None
+        }
+    }
+}
+
+fn tell_refusal(refusal: Refusal, out: &mut AnswerText) {
+    match refusal {
+        Refusal::Rule { unit, rule } => tell_rule(unit, rule, out),
+        Refusal::Memory => out.push("refused memory"),
+    }
+}
+
+/// Appends the rule that a program breaks, and the unit.
+pub(crate) fn tell_rule(unit: u32, rule: Rule, out: &mut AnswerText) {
+    out.field("refused verify V", &rule.number());
+    out.field(" unit ", &unit);
 }

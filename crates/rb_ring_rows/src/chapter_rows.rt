@@ -2,10 +2,12 @@
 
 use crate::answers::{tell_chapter, tell_handed_out, tell_numbers, tell_tally};
 use crate::row::RingRow;
-use crate::script::{RowScript, WRONG_WORDS, keep, narrow};
+use crate::script::{Named, RowScript, WRONG_WORDS, keep, narrow};
 use crate::text::Text;
+use crate::twin_rings::TwinRings;
 use rb_chapter_ring::{COUNT_LIMIT, Chapter, Snapshot, UntakenRecord, UntakenStatus};
 use rb_consumer::Keeper;
+use std::alloc::Global;
 
 /// The verbs of rows on chapters.
 pub(crate) const VERBS: [&str; 10] = [
@@ -15,20 +17,23 @@ pub(crate) const VERBS: [&str; 10] = [
 /// Answers a row on chapters.
 pub(crate) fn answer(script: &mut RowScript, row: &RingRow<'_>, out: &mut Text) {
     let (first, second) = (row.name(0), row.name(1));
+    let (alloc, chapters) = (script.alloc, &mut script.chapters);
     match row.form() {
-        "chapter x 0 0" => make(script, row, out),
-        "keeper x x 0" => make_keeper(script, row, out),
-        "kept x x" => end_keeper(script, first, second, out),
-        "clear x" => clear(script, first, out),
-        "after x x" => open_after(script, first, second, out),
-        "meets x x" => compare(script, first, second, out),
-        "show x" | "opening x" | "closing x" | "entries x" => show(script, row.verb, first, out),
+        "chapter x 0 0" => make(alloc, chapters, row, out),
+        "keeper x x 0" => make_keeper(alloc, chapters, &mut script.keepers, row, out),
+        "kept x x" => end_keeper(alloc, &mut script.keepers, first, chapters, second, out),
+        "clear x" => clear(chapters, first, out),
+        "after x x" => open_after(alloc, chapters, first, second, out),
+        "meets x x" => compare(chapters, first, second, out),
+        "show x" | "opening x" | "closing x" | "entries x" => {
+            show(&script.rings, chapters, row.verb, first, out);
+        }
         _ => out.word(WRONG_WORDS),
     }
 }
 
-fn clear(script: &mut RowScript, name: &str, out: &mut Text) {
-    match script.chapters.get_mut(name) {
+fn clear(chapters: &mut Named<Chapter>, name: &str, out: &mut Text) {
+    match chapters.get_mut(name) {
         Some(chapter) => {
             chapter.clear();
             out.word("cleared");
@@ -38,8 +43,8 @@ fn clear(script: &mut RowScript, name: &str, out: &mut Text) {
 }
 
 // Appends whether a chapter meets the next one.
-fn compare(script: &RowScript, name: &str, next: &str, out: &mut Text) {
-    match (script.chapters.get(name), script.chapters.get(next)) {
+fn compare(chapters: &Named<Chapter>, name: &str, next: &str, out: &mut Text) {
+    match (chapters.get(name), chapters.get(next)) {
         (Some(chapter), Some(next)) => out.word(yes_or_no(chapter.meets(next))),
         _ => out.word("fault: no such chapter"),
     }
@@ -50,60 +55,73 @@ fn yes_or_no(answer: bool) -> &'static str {
 }
 
 // Creates an empty chapter.
-fn make(script: &mut RowScript, row: &RingRow<'_>, out: &mut Text) {
+fn make(alloc: Global, chapters: &mut Named<Chapter>, row: &RingRow<'_>, out: &mut Text) {
     let (room, workers) = (narrow(row.number(0)), narrow(row.number(1)));
     if room < 8 || room > 1_048_576 || workers == 0 || workers > 256 {
         return out.word("fault: out of bounds");
     }
-    match Chapter::new(script.alloc, room, workers) {
+    match Chapter::new(alloc, room, workers) {
         Ok(chapter) => {
             out.word("made");
-            keep(
-                script.alloc,
-                &mut script.chapters,
-                row.name(0),
-                chapter,
-                out,
-            );
+            keep(alloc, chapters, row.name(0), chapter, out);
         }
         Err(_) => out.word("fault: no memory"),
     }
 }
 
 // Creates a keeper of a chapter. The chapter's name is removed.
-fn make_keeper(script: &mut RowScript, row: &RingRow<'_>, out: &mut Text) {
-    match script.chapters.remove(row.name(1)) {
+fn make_keeper(
+    alloc: Global,
+    chapters: &mut Named<Chapter>,
+    keepers: &mut Named<Keeper>,
+    row: &RingRow<'_>,
+    out: &mut Text,
+) {
+    match chapters.remove(row.name(1)) {
         Some(chapter) => {
             out.word("made");
             let keeper = Keeper::with_margin(chapter, narrow(row.number(0)));
-            keep(script.alloc, &mut script.keepers, row.name(0), keeper, out);
+            keep(alloc, keepers, row.name(0), keeper, out);
         }
         None => out.word("fault: no such chapter"),
     }
 }
 
 // Gives the chapter of a keeper a name, and drops the keeper.
-fn end_keeper(script: &mut RowScript, name: &str, chapter: &str, out: &mut Text) {
-    match script.keepers.remove(name) {
+fn end_keeper(
+    alloc: Global,
+    keepers: &mut Named<Keeper>,
+    name: &str,
+    chapters: &mut Named<Chapter>,
+    chapter: &str,
+    out: &mut Text,
+) {
+    match keepers.remove(name) {
         Some(keeper) => {
             let kept = keeper.into_chapter();
             tell_handed_out(out, &kept);
-            keep(script.alloc, &mut script.chapters, chapter, kept, out);
+            keep(alloc, chapters, chapter, kept, out);
         }
         None => out.word("fault: no such keeper"),
     }
 }
 
 // Opens a chapter after another, if that is allowed.
-fn open_after(script: &mut RowScript, name: &str, earlier: &str, out: &mut Text) {
-    let Some(mut chapter) = script.chapters.remove(name) else {
+fn open_after(
+    alloc: Global,
+    chapters: &mut Named<Chapter>,
+    name: &str,
+    earlier: &str,
+    out: &mut Text,
+) {
+    let Some(mut chapter) = chapters.remove(name) else {
         return out.word("fault: no such chapter");
     };
-    match script.chapters.get(earlier) {
+    match chapters.get(earlier) {
         Some(earlier) => open_behind(&mut chapter, earlier, out),
         None => out.word("fault: no such chapter"),
     }
-    keep(script.alloc, &mut script.chapters, name, chapter, out);
+    keep(alloc, chapters, name, chapter, out);
 }
 
 fn open_behind(chapter: &mut Chapter, earlier: &Chapter, out: &mut Text) {
@@ -120,10 +138,16 @@ fn open_behind(chapter: &mut Chapter, earlier: &Chapter, out: &mut Text) {
 }
 
 // Appends a description of the chapter that a ring keeps, or of the chapter with this name.
-fn show(script: &RowScript, verb: &str, name: &str, out: &mut Text) {
-    if let Some(twins) = script.rings.get(name) {
+fn show(
+    rings: &Named<TwinRings>,
+    chapters: &Named<Chapter>,
+    verb: &str,
+    name: &str,
+    out: &mut Text,
+) {
+    if let Some(twins) = rings.get(name) {
         tell(verb, twins.chapter(), out);
-    } else if let Some(chapter) = script.chapters.get(name) {
+    } else if let Some(chapter) = chapters.get(name) {
         tell(verb, chapter, out);
     } else {
         out.word("fault: no such chapter");

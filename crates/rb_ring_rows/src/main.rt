@@ -35,6 +35,7 @@
 
 mod answers;
 mod chapter_rows;
+mod closing_rows;
 mod consumer_calls;
 mod fault;
 mod row;
@@ -99,6 +100,7 @@ fn answers_of<T: Wait>(rt: &T, alloc: Global, bytes: &[u8]) -> Text {
     for line in lines.split(|byte| *byte == b'\n') {
         answer_line(rt, &mut script, line, &mut answers);
     }
+    drop(script);
     answers
 }
 

@@ -1,14 +1,10 @@
 //! A row, split into its parts.
 
-use std::alloc::{AllocError, Global};
+use crate::text::Text;
+use std::alloc::Global;
 
 // The maximum number of bytes in a row.
 const MOST_BYTES: usize = 1 << 20;
-
-// How a form writes this many names, and this many numbers. No form has more.
-const NAMES: [&str; 4] = ["", " x", " x x", " x x x"];
-
-const NUMBERS: [&str; 5] = ["", " 0", " 0 0", " 0 0 0", " 0 0 0 0"];
 
 // The answer to a line with an invalid word (not a name, a number below 2^64, or a run of bytes after the colon), or
 // with more than 1,048,576 bytes.
@@ -25,7 +21,7 @@ pub(crate) struct RingRow<'a> {
     pub(crate) names: Vec<&'a str>,
     pub(crate) numbers: Vec<u64>,
     pub(crate) bytes: Vec<u8>,
-    form: String,
+    form: Text,
     // Why the line is not a row.
     fault: Option<&'static str>,
 }
@@ -38,7 +34,7 @@ impl<'a> RingRow<'a> {
             names: Vec::new(alloc),
             numbers: Vec::new(alloc),
             bytes: Vec::new(alloc),
-            form: String::new(alloc),
+            form: Text::new(alloc),
             fault: None,
         };
         row.add_line(line);
@@ -72,21 +68,34 @@ impl<'a> RingRow<'a> {
 
     fn add_line(&mut self, line: &'a str) {
         let (words, runs) = line.split_once(':').unwrap_or((line, ""));
+        self.add_words(words);
+        self.add_runs(runs);
+        self.add_form();
+    }
+
+    fn add_words(&mut self, words: &'a str) {
         for word in words.split_ascii_whitespace() {
             self.add_word(word);
         }
+    }
+
+    fn add_runs(&mut self, runs: &str) {
         for run in runs.split_ascii_whitespace() {
             self.add_run(run);
         }
-        if self.add_form().is_err() {
-            self.fault = Some(NO_MEMORY);
-        }
     }
 
-    fn add_form(&mut self) -> Result<(), AllocError> {
-        let names = NAMES.get(self.names.len()).copied().unwrap_or(" more");
-        let numbers = NUMBERS.get(self.numbers.len()).copied().unwrap_or(" more");
-        write!(self.form, "{}{names}{numbers}", self.verb)
+    fn add_form(&mut self) {
+        self.form.push(self.verb);
+        for _ in 0..self.names.len() {
+            self.form.push(" x");
+        }
+        for _ in 0..self.numbers.len() {
+            self.form.push(" 0");
+        }
+        if !self.form.is_complete() {
+            self.fault = Some(NO_MEMORY);
+        }
     }
 
     fn add_word(&mut self, word: &'a str) {

@@ -8,13 +8,14 @@ use crate::shared_rings::SharedPlace;
 use crate::sheet_rows::write_sheet;
 use crate::text::Text;
 use crate::twin_rings::{TwinRecord, TwinRings};
-use crate::{chapter_rows, shared_rows, sheet_rows, value_rows};
+use crate::{chapter_rows, closing_rows, shared_rows, sheet_rows, value_rows};
 use rb_chapter_ring::{Chapter, RecordEnd};
 use rb_consumer::Keeper;
 use rb_lend::Sheet;
 use rb_shared_ring::{Closing, Reservation};
 use std::alloc::Global;
 use std::collections::BTreeMap;
+use std::mem;
 use std::sync::Wait;
 
 /// The maximum length of a requested record: the size of the largest ring.
@@ -34,6 +35,9 @@ pub(crate) const MOST_TAKEN: u64 = 1 << 16;
 /// The answer to a row that does not have the words of its command, or whose numbers are too large for it.
 pub(crate) const WRONG_WORDS: &str = "fault: wrong words";
 
+/// Values by their names.
+pub(crate) type Named<T> = BTreeMap<String, T>;
+
 /// The numbers with which a ring is opened: its size, its start, its number of workers, and the room of its chapters.
 #[derive(Clone, Copy)]
 pub(crate) struct OpeningNumbers {
@@ -47,14 +51,14 @@ pub(crate) struct OpeningNumbers {
 #[derive(Drop)]
 pub(crate) struct RowScript {
     pub(crate) alloc: Global,
-    pub(crate) rings: BTreeMap<String, TwinRings>,
-    pub(crate) records: BTreeMap<String, TwinRecord>,
-    pub(crate) chapters: BTreeMap<String, Chapter>,
-    pub(crate) shared: BTreeMap<String, SharedPlace>,
-    pub(crate) shared_records: BTreeMap<String, Reservation>,
-    pub(crate) closings: BTreeMap<String, Closing>,
-    pub(crate) keepers: BTreeMap<String, Keeper>,
-    pub(crate) sheets: BTreeMap<String, Sheet>,
+    pub(crate) rings: Named<TwinRings>,
+    pub(crate) records: Named<TwinRecord>,
+    pub(crate) chapters: Named<Chapter>,
+    pub(crate) shared: Named<SharedPlace>,
+    pub(crate) shared_records: Named<Reservation>,
+    pub(crate) closings: Named<Closing>,
+    pub(crate) keepers: Named<Keeper>,
+    pub(crate) sheets: Named<Sheet>,
     /// The number of shared rings that were requested, and the tag of the last one.
     pub(crate) tags: u64,
 }
@@ -78,7 +82,8 @@ impl RowScript {
 
     /// Removes all names.
     pub(crate) fn clear(&mut self) {
-        *self = RowScript::new(self.alloc);
+        let empty = RowScript::new(self.alloc);
+        drop(mem::replace(self, empty));
     }
 
     /// Returns the answer to a row.
@@ -102,7 +107,7 @@ impl RowScript {
         } else if row.verb != "bind" {
             self.answer_other(row, out);
         } else if self.closings.contains_key(first) {
-            shared_rows::bind(self, row, out);
+            closing_rows::bind(self, row, out);
         } else {
             self.bind(row, out);
         }
@@ -123,69 +128,22 @@ impl RowScript {
     }
 
     fn call(&mut self, row: &RingRow<'_>, out: &mut Text) {
+        let (alloc, rings, records) = (self.alloc, &mut self.rings, &mut self.records);
         match row.form() {
-            "open x 0 0 0 0" => self.open(row, out),
-            "reserve x x 0 0" => self.reserve(row, out),
-            "write x 0" => self.write(row, out),
-            "submit x x 0" => self.end(RecordEnd::Submit, row, out),
-            "discard x x 0" => self.end(RecordEnd::Discard, row, out),
-            "output x 0 0" => self.output(row, out),
-            "handout x x" => self.hand_out(row, out),
+            "open x 0 0 0 0" => open(alloc, rings, row, out),
+            "reserve x x 0 0" => reserve(alloc, rings, records, row, out),
+            "write x 0" => write(
+                records,
+                &mut self.shared_records,
+                &mut self.sheets,
+                row,
+                out,
+            ),
+            "submit x x 0" => end(alloc, rings, records, RecordEnd::Submit, row, out),
+            "discard x x 0" => end(alloc, rings, records, RecordEnd::Discard, row, out),
+            "output x 0 0" => output(alloc, rings, row, out),
+            "handout x x" => hand_out(alloc, rings, &mut self.chapters, row, out),
             _ => out.word(WRONG_WORDS),
-        }
-    }
-
-    fn open(&mut self, row: &RingRow<'_>, out: &mut Text) {
-        let setup = ring_numbers(row);
-        if let Some(twins) = TwinRings::open(self.alloc, setup, out) {
-            keep(self.alloc, &mut self.rings, row.name(0), twins, out);
-        }
-    }
-
-    fn reserve(&mut self, row: &RingRow<'_>, out: &mut Text) {
-        let (worker, n) = (narrow(row.number(0)), row.number(1));
-        if n > LONGEST {
-            return out.word(WRONG_WORDS);
-        }
-        let Some(twins) = self.rings.get_mut(row.name(0)) else {
-            return out.word("fault: no such ring");
-        };
-        if let Some(granted) = twins.reserve(self.alloc, worker, n as u32, out) {
-            keep(self.alloc, &mut self.records, row.name(1), granted, out);
-        }
-    }
-
-    fn write(&mut self, row: &RingRow<'_>, out: &mut Text) {
-        let (name, at, bytes) = (row.name(0), row.number(0), row.bytes.as_slice());
-        if let Some(held) = self.records.get_mut(name) {
-            held.write(at, bytes, out);
-        } else if let Some(held) = self.shared_records.get_mut(name) {
-            write_record(held, at, bytes, out);
-        } else if let Some(sheet) = self.sheets.get_mut(name) {
-            write_sheet(sheet, at, bytes, out);
-        } else {
-            out.word("fault: no such record");
-        }
-    }
-
-    fn end(&mut self, end: RecordEnd, row: &RingRow<'_>, out: &mut Text) {
-        let (name, flags) = (row.name(1), row.number(0));
-        let Some(twins) = self.rings.get_mut(row.name(0)) else {
-            return out.word("fault: no such ring");
-        };
-        let Some(held) = self.records.remove(name) else {
-            return out.word("fault: no such record");
-        };
-        if let Some(stray) = twins.end(self.alloc, held, end, flags, out) {
-            keep(self.alloc, &mut self.records, name, stray, out);
-        }
-    }
-
-    fn output(&mut self, row: &RingRow<'_>, out: &mut Text) {
-        let (worker, flags) = (narrow(row.number(0)), row.number(1));
-        match self.rings.get_mut(row.name(0)) {
-            Some(twins) => twins.output(self.alloc, worker, row.bytes.as_slice(), flags, out),
-            None => out.word("fault: no such ring"),
         }
     }
 
@@ -200,35 +158,126 @@ impl RowScript {
         }
     }
 
-    fn hand_out(&mut self, row: &RingRow<'_>, out: &mut Text) {
-        let name = row.name(1);
-        let Some(twins) = self.rings.get_mut(row.name(0)) else {
-            return out.word("fault: no such ring");
-        };
-        match self.chapters.remove(name) {
-            Some(empty) => {
-                let chapter = twins.hand_out(empty, out);
-                keep(self.alloc, &mut self.chapters, name, chapter, out);
-            }
-            None => out.word("fault: no such chapter"),
-        }
-    }
-
     fn bind(&mut self, row: &RingRow<'_>, out: &mut Text) {
         let ([ring, names @ ..], []) = (row.names.as_slice(), row.numbers.as_slice()) else {
             return out.word(WRONG_WORDS);
         };
-        let Some(twins) = self.rings.get(*ring) else {
-            return out.word("fault: no such ring");
-        };
-        let chapters = collect(self.alloc, &mut self.chapters, names);
-        if chapters.len() == names.len() {
-            twins.bind(self.alloc, chapters.as_slice(), out);
-        } else {
-            out.word("fault: no such chapter");
+        match self.rings.get(*ring) {
+            Some(twins) => bind(self.alloc, twins, &mut self.chapters, names, out),
+            None => out.word("fault: no such ring"),
         }
-        keep_chapters(self, names, chapters, out);
     }
+}
+
+fn open(alloc: Global, rings: &mut Named<TwinRings>, row: &RingRow<'_>, out: &mut Text) {
+    let setup = ring_numbers(row);
+    if let Some(twins) = TwinRings::open(alloc, setup, out) {
+        keep(alloc, rings, row.name(0), twins, out);
+    }
+}
+
+fn reserve(
+    alloc: Global,
+    rings: &mut Named<TwinRings>,
+    records: &mut Named<TwinRecord>,
+    row: &RingRow<'_>,
+    out: &mut Text,
+) {
+    let (worker, n) = (narrow(row.number(0)), row.number(1));
+    if n > LONGEST {
+        return out.word(WRONG_WORDS);
+    }
+    match rings.get_mut(row.name(0)) {
+        Some(twins) => {
+            if let Some(granted) = twins.reserve(alloc, worker, n as u32, out) {
+                keep(alloc, records, row.name(1), granted, out);
+            }
+        }
+        None => out.word("fault: no such ring"),
+    }
+}
+
+fn write(
+    records: &mut Named<TwinRecord>,
+    shared_records: &mut Named<Reservation>,
+    sheets: &mut Named<Sheet>,
+    row: &RingRow<'_>,
+    out: &mut Text,
+) {
+    let (name, at, bytes) = (row.name(0), row.number(0), row.bytes.as_slice());
+    if let Some(held) = records.get_mut(name) {
+        held.write(at, bytes, out);
+    } else if let Some(held) = shared_records.get_mut(name) {
+        write_record(held, at, bytes, out);
+    } else if let Some(sheet) = sheets.get_mut(name) {
+        write_sheet(sheet, at, bytes, out);
+    } else {
+        out.word("fault: no such record");
+    }
+}
+
+fn end(
+    alloc: Global,
+    rings: &mut Named<TwinRings>,
+    records: &mut Named<TwinRecord>,
+    end: RecordEnd,
+    row: &RingRow<'_>,
+    out: &mut Text,
+) {
+    let (name, flags) = (row.name(1), row.number(0));
+    let Some(twins) = rings.get_mut(row.name(0)) else {
+        return out.word("fault: no such ring");
+    };
+    let Some(held) = records.remove(name) else {
+        return out.word("fault: no such record");
+    };
+    if let Some(stray) = twins.end(alloc, held, end, flags, out) {
+        keep(alloc, records, name, stray, out);
+    }
+}
+
+fn output(alloc: Global, rings: &mut Named<TwinRings>, row: &RingRow<'_>, out: &mut Text) {
+    let (worker, flags) = (narrow(row.number(0)), row.number(1));
+    match rings.get_mut(row.name(0)) {
+        Some(twins) => twins.output(alloc, worker, row.bytes.as_slice(), flags, out),
+        None => out.word("fault: no such ring"),
+    }
+}
+
+fn hand_out(
+    alloc: Global,
+    rings: &mut Named<TwinRings>,
+    chapters: &mut Named<Chapter>,
+    row: &RingRow<'_>,
+    out: &mut Text,
+) {
+    let name = row.name(1);
+    let Some(twins) = rings.get_mut(row.name(0)) else {
+        return out.word("fault: no such ring");
+    };
+    match chapters.remove(name) {
+        Some(empty) => {
+            let chapter = twins.hand_out(empty, out);
+            keep(alloc, chapters, name, chapter, out);
+        }
+        None => out.word("fault: no such chapter"),
+    }
+}
+
+fn bind(
+    alloc: Global,
+    twins: &TwinRings,
+    named: &mut Named<Chapter>,
+    names: &[&str],
+    out: &mut Text,
+) {
+    let chapters = collect(alloc, named, names);
+    if chapters.len() == names.len() {
+        twins.bind(alloc, chapters.as_slice(), out);
+    } else {
+        out.word("fault: no such chapter");
+    }
+    keep_chapters(alloc, named, names, chapters, out);
 }
 
 // Takes records from a ring, or queries it.
@@ -255,11 +304,7 @@ pub(crate) fn ring_numbers(row: &RingRow<'_>) -> OpeningNumbers {
 }
 
 /// Removes the chapters with these names from the map and returns them in order, up to the first that does not exist.
-pub(crate) fn collect(
-    alloc: Global,
-    map: &mut BTreeMap<String, Chapter>,
-    names: &[&str],
-) -> Vec<Chapter> {
+pub(crate) fn collect(alloc: Global, map: &mut Named<Chapter>, names: &[&str]) -> Vec<Chapter> {
     let mut chapters = Vec::new(alloc);
     for name in names {
         let Some(chapter) = map.remove(*name) else {
@@ -274,20 +319,21 @@ pub(crate) fn collect(
 
 /// Gives chapters their names again.
 pub(crate) fn keep_chapters(
-    script: &mut RowScript,
+    alloc: Global,
+    named: &mut Named<Chapter>,
     names: &[&str],
     chapters: Vec<Chapter>,
     out: &mut Text,
 ) {
     for (name, chapter) in names.iter().zip(chapters) {
-        keep(script.alloc, &mut script.chapters, name, chapter, out);
+        keep(alloc, named, name, chapter, out);
     }
 }
 
 /// Gives a value a name. The previous value with this name is dropped.
 pub(crate) fn keep<T: Drop>(
     alloc: Global,
-    map: &mut BTreeMap<String, T>,
+    map: &mut Named<T>,
     name: &str,
     value: T,
     out: &mut Text,

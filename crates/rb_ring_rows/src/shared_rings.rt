@@ -196,6 +196,9 @@ impl SharedPlace {
         rt: &R,
         other: SharedPlace,
     ) -> Option<(SharedPlace, SharedPlace)> {
+        if other.ring.tag() == self.ring.tag() {
+            return None;
+        }
         let SharedPlace {
             ring,
             seats: own,
@@ -206,11 +209,11 @@ impl SharedPlace {
             seats,
             consumer: stranger,
         } = other;
-        if home.tag() == ring.tag() {
-            return None;
-        }
         match ring.close(rt, seats, consumer) {
-            Ok(_) => None,
+            Ok(closing) => {
+                drop((closing, own, home, stranger));
+                None
+            }
             Err(
                 NotAll {
                     ring,

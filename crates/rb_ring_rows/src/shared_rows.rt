@@ -1,18 +1,17 @@
 //! Rows on shared rings. After the ring, a row may name another ring, by whose seat the call is then made.
 
-use crate::answers::{bind_word, tell_counts, tell_entries};
+use crate::closing_rows::close;
 use crate::consumer_calls::ConsumerCall;
 use crate::row::RingRow;
-use crate::script::{
-    LONGEST, MOST_TAKEN, RowScript, WRONG_WORDS, collect, keep, keep_chapters, ring_numbers,
-};
+use crate::script::{LONGEST, MOST_TAKEN, Named, RowScript, WRONG_WORDS, keep, ring_numbers};
 use crate::shared_rings::{Load, SharedPlace, WorkerCall};
 use crate::sheets::{copied, filled};
 use crate::text::Text;
+use rb_chapter_ring::Chapter;
+use rb_consumer::Keeper;
 use rb_lend::Sheet;
-use rb_shared_ring::{Closing, Reservation};
+use rb_shared_ring::Reservation;
 use std::alloc::Global;
-use std::collections::BTreeMap;
 use std::sync::Wait;
 
 // The verbs of a worker's calls that name a record after the ring.
@@ -31,18 +30,19 @@ pub(crate) fn answer<R: Wait>(rt: &R, script: &mut RowScript, row: &RingRow<'_>,
     } else if SEAT_VERBS.contains(&row.verb) {
         work(rt, script, row, 1, out);
     } else if CONSUMER_VERBS.contains(&row.verb) {
-        consume(rt, script, row, out);
+        consume(rt, script.alloc, &mut script.shared, row, out);
     } else {
         answer_other(rt, script, row, out);
     }
 }
 
 fn answer_other<R: Wait>(rt: &R, script: &mut RowScript, row: &RingRow<'_>, out: &mut Text) {
+    let (alloc, shared) = (script.alloc, &mut script.shared);
     match row.verb {
-        "handout" => hand_out(rt, script, row, out),
-        "turn" => turn(rt, script, row, out),
-        "seat" | "consumer" => tell_seats(script, row, out),
-        "close" => close(rt, script, row, out),
+        "handout" => hand_out(rt, alloc, shared, &mut script.chapters, row, out),
+        "turn" => turn(rt, alloc, shared, &mut script.keepers, row, out),
+        "seat" | "consumer" => tell_seats(shared, row, out),
+        "close" => close(rt, alloc, shared, &mut script.closings, row, out),
         _ => out.word("fault: no such command"),
     }
 }
@@ -78,21 +78,28 @@ fn has_words(row: &RingRow<'_>, place: usize) -> bool {
 
 // Makes a worker's call.
 fn work<R: Wait>(rt: &R, script: &mut RowScript, row: &RingRow<'_>, place: usize, out: &mut Text) {
-    if !has_words(row, place) {
-        return out.word(WRONG_WORDS);
-    }
     let home = home_of(row, place);
-    let fault = match script.shared.get(home) {
-        Some(shared) if shared.has_worker(row.number(0)) => "",
-        Some(_) => "fault: no such worker",
-        None => "fault: no such ring",
+    let fault = if has_words(row, place) {
+        fault_of(&script.shared, home, row.number(0))
+    } else {
+        WRONG_WORDS
     };
     if !fault.is_empty() {
         return out.word(fault);
     }
-    match loaded(script, row) {
-        Ok(load) => work_by(rt, script, row, home, load, out),
+    let (alloc, records) = (script.alloc, &mut script.shared_records);
+    match loaded(alloc, records, row) {
+        Ok(load) => work_by(rt, alloc, &mut script.shared, records, row, home, load, out),
         Err(fault) => out.word(fault),
+    }
+}
+
+// Returns why a worker can make no call by its seat of this ring, or an empty text.
+fn fault_of(shared: &Named<SharedPlace>, home: &str, worker: u64) -> &'static str {
+    match shared.get(home) {
+        Some(place) if place.has_worker(worker) => "",
+        Some(_) => "fault: no such worker",
+        None => "fault: no such ring",
     }
 }
 
@@ -110,11 +117,15 @@ fn worker_call(row: &RingRow<'_>) -> WorkerCall {
 }
 
 // Returns the argument of a row's call, or what is wrong with its words.
-fn loaded(script: &mut RowScript, row: &RingRow<'_>) -> Result<Load, &'static str> {
+fn loaded(
+    alloc: Global,
+    records: &mut Named<Reservation>,
+    row: &RingRow<'_>,
+) -> Result<Load, &'static str> {
     match row.verb {
-        "reserve" => sheet_of(script.alloc, row.number(1)),
-        "output" => with_sheet(copied(script.alloc, row.bytes.as_slice())),
-        "submit" | "discard" => with_record(script.shared_records.remove(row.name(1))),
+        "reserve" => sheet_of(alloc, row.number(1)),
+        "output" => with_sheet(copied(alloc, row.bytes.as_slice())),
+        "submit" | "discard" => with_record(records.remove(row.name(1))),
         _ => Ok(Load {
             sheet: None,
             record: None,
@@ -154,53 +165,53 @@ fn with_record(record: Option<Reservation>) -> Result<Load, &'static str> {
 // Makes a worker's call at a row's ring, by its seat of the home, and keeps the resulting record.
 fn work_by<R: Wait>(
     rt: &R,
-    script: &mut RowScript,
+    alloc: Global,
+    shared: &mut Named<SharedPlace>,
+    records: &mut Named<Reservation>,
     row: &RingRow<'_>,
     home: &str,
     load: Load,
     out: &mut Text,
 ) {
     let mut load = load;
-    call_by(rt, script, row, home, &mut load, out);
+    call_by(rt, alloc, shared, row, home, &mut load, out);
     if let Some(record) = load.record.take() {
-        let records = &mut script.shared_records;
-        keep(script.alloc, records, row.name(1), record, out);
+        keep(alloc, records, row.name(1), record, out);
     }
 }
 
 // Meanwhile, the home is not in the map, so only another ring is found there.
 fn call_by<R: Wait>(
     rt: &R,
-    script: &mut RowScript,
+    alloc: Global,
+    shared: &mut Named<SharedPlace>,
     row: &RingRow<'_>,
     home: &str,
     load: &mut Load,
     out: &mut Text,
 ) {
-    if let Some(mut place) = script.shared.remove(home) {
-        let other = script.shared.get(row.name(0));
+    if let Some(mut place) = shared.remove(home) {
+        let other = shared.get(row.name(0));
         place.work(rt, other, row.number(0), worker_call(row), load, out);
-        keep(script.alloc, &mut script.shared, home, place, out);
+        keep(alloc, shared, home, place, out);
     }
 }
 
-fn consume<R: Wait>(rt: &R, script: &mut RowScript, row: &RingRow<'_>, out: &mut Text) {
+fn consume<R: Wait>(
+    rt: &R,
+    alloc: Global,
+    shared: &mut Named<SharedPlace>,
+    row: &RingRow<'_>,
+    out: &mut Text,
+) {
     let Some(call) = consumer_call(row) else {
         return out.word(WRONG_WORDS);
     };
     let home = home_of(row, 1);
-    if row.names.len() > 2 || !script.shared.contains_key(home) {
+    if row.names.len() > 2 || !shared.contains_key(home) {
         return out.word("fault: no such ring");
     }
-    consume_by(
-        rt,
-        script.alloc,
-        &mut script.shared,
-        row.name(0),
-        home,
-        call,
-        out,
-    );
+    consume_by(rt, alloc, shared, row.name(0), home, call, out);
 }
 
 // Returns the call that a row's words request, if there is one.
@@ -220,7 +231,7 @@ fn consumer_call(row: &RingRow<'_>) -> Option<ConsumerCall<'static>> {
 fn consume_by<R: Wait>(
     rt: &R,
     alloc: Global,
-    shared: &mut BTreeMap<String, SharedPlace>,
+    shared: &mut Named<SharedPlace>,
     ring: &str,
     home: &str,
     call: ConsumerCall<'_>,
@@ -234,12 +245,12 @@ fn consume_by<R: Wait>(
 
 // Returns what is wrong with the words of a row that names a chapter or a keeper after the ring, and optionally a home
 // after that.
-fn wrong_words(script: &RowScript, row: &RingRow<'_>) -> Option<&'static str> {
+fn wrong_words(shared: &Named<SharedPlace>, row: &RingRow<'_>) -> Option<&'static str> {
     let names = row.names.len();
     if names < 2 || names > 3 || !row.numbers.is_empty() {
         return Some(WRONG_WORDS);
     }
-    if script.shared.contains_key(home_of(row, 2)) {
+    if shared.contains_key(home_of(row, 2)) {
         None
     } else {
         Some("fault: no such ring")
@@ -247,127 +258,56 @@ fn wrong_words(script: &RowScript, row: &RingRow<'_>) -> Option<&'static str> {
 }
 
 // Makes the consumer hand out the ring's chapter, by its own seat or by that of another ring.
-fn hand_out<R: Wait>(rt: &R, script: &mut RowScript, row: &RingRow<'_>, out: &mut Text) {
-    if let Some(fault) = wrong_words(script, row) {
+fn hand_out<R: Wait>(
+    rt: &R,
+    alloc: Global,
+    shared: &mut Named<SharedPlace>,
+    chapters: &mut Named<Chapter>,
+    row: &RingRow<'_>,
+    out: &mut Text,
+) {
+    if let Some(fault) = wrong_words(shared, row) {
         return out.word(fault);
     }
     let (ring, name, home) = (row.name(0), row.name(1), home_of(row, 2));
-    let mut chapter = script.chapters.remove(name);
+    let mut chapter = chapters.remove(name);
     if chapter.is_none() {
         return out.word("fault: no such chapter");
     }
     let call = ConsumerCall::HandOut(&mut chapter);
-    consume_by(rt, script.alloc, &mut script.shared, ring, home, call, out);
+    consume_by(rt, alloc, shared, ring, home, call, out);
     if let Some(chapter) = chapter {
-        keep(script.alloc, &mut script.chapters, name, chapter, out);
+        keep(alloc, chapters, name, chapter, out);
     }
 }
 
 // Makes a keeper check the ring's chapter, by the ring's own consumer or by that of another ring.
-fn turn<R: Wait>(rt: &R, script: &mut RowScript, row: &RingRow<'_>, out: &mut Text) {
-    if let Some(fault) = wrong_words(script, row) {
+fn turn<R: Wait>(
+    rt: &R,
+    alloc: Global,
+    shared: &mut Named<SharedPlace>,
+    keepers: &mut Named<Keeper>,
+    row: &RingRow<'_>,
+    out: &mut Text,
+) {
+    if let Some(fault) = wrong_words(shared, row) {
         return out.word(fault);
     }
-    let (ring, home) = (row.name(0), home_of(row, 2));
-    let Some(keeper) = script.keepers.get_mut(row.name(1)) else {
-        return out.word("fault: no such keeper");
-    };
-    let call = ConsumerCall::Turn(keeper);
-    consume_by(rt, script.alloc, &mut script.shared, ring, home, call, out);
+    match keepers.get_mut(row.name(1)) {
+        Some(keeper) => {
+            let (ring, home) = (row.name(0), home_of(row, 2));
+            let call = ConsumerCall::Turn(keeper);
+            consume_by(rt, alloc, shared, ring, home, call, out);
+        }
+        None => out.word("fault: no such keeper"),
+    }
 }
 
 // Appends the counts of a seat.
-fn tell_seats(script: &RowScript, row: &RingRow<'_>, out: &mut Text) {
-    let Some(place) = script.shared.get(row.name(0)) else {
-        return out.word(WRONG_WORDS);
-    };
-    match row.form() {
-        "seat x 0" => place.tell_seat(row.number(0), out),
-        "consumer x" => place.tell_consumer(out),
+fn tell_seats(shared: &Named<SharedPlace>, row: &RingRow<'_>, out: &mut Text) {
+    match (shared.get(row.name(0)), row.form()) {
+        (Some(place), "seat x 0") => place.tell_seat(row.number(0), out),
+        (Some(place), "consumer x") => place.tell_consumer(out),
         _ => out.word(WRONG_WORDS),
     }
-}
-
-// Closes a ring with all its seats; if the row has a number, with all but the last; if it names another ring, with that
-// ring's seats.
-fn close<R: Wait>(rt: &R, script: &mut RowScript, row: &RingRow<'_>, out: &mut Text) {
-    match row.form() {
-        "close x" => close_own(rt, script, row.name(0), true, out),
-        "close x 0" => close_own(rt, script, row.name(0), false, out),
-        "close x x" => close_with(rt, script, row.name(0), row.name(1), out),
-        _ => out.word(WRONG_WORDS),
-    }
-}
-
-fn close_own<R: Wait>(rt: &R, script: &mut RowScript, ring: &str, all: bool, out: &mut Text) {
-    let Some(place) = script.shared.remove(ring) else {
-        return out.word("fault: no such ring");
-    };
-    match place.close(rt, all) {
-        Ok(closing) => {
-            out.word("closed");
-            tell_closing(&closing, out);
-            keep(script.alloc, &mut script.closings, ring, closing, out);
-        }
-        Err(place) => {
-            out.word("not all");
-            keep(script.alloc, &mut script.shared, ring, place, out);
-        }
-    }
-}
-
-fn close_with<R: Wait>(rt: &R, script: &mut RowScript, ring: &str, other: &str, out: &mut Text) {
-    if ring == other || !script.shared.contains_key(other) {
-        return out.word("fault: no such ring");
-    }
-    match closed_with(rt, &mut script.shared, ring, other) {
-        Some((place, home)) => {
-            out.word("not all");
-            keep(script.alloc, &mut script.shared, ring, place, out);
-            keep(script.alloc, &mut script.shared, other, home, out);
-        }
-        None => out.word("closed"),
-    }
-}
-
-// Tries to close a ring with the seats of another one. Both are removed from the map, and put back if the ring is not
-// closed.
-fn closed_with<R: Wait>(
-    rt: &R,
-    shared: &mut BTreeMap<String, SharedPlace>,
-    ring: &str,
-    other: &str,
-) -> Option<(SharedPlace, SharedPlace)> {
-    let home = shared.remove(other)?;
-    shared.remove(ring)?.close_with(rt, home)
-}
-
-fn tell_closing(closing: &Closing, out: &mut Text) {
-    out.field("tag", closing.tag());
-    out.field("producer", closing.producer());
-    out.field("consumer", closing.consumer());
-    tell_counts(out, closing.counts());
-    out.field("chapter", closing.chapter().number());
-}
-
-/// Binds chapters to the history of a closed ring. The ring and the chapters are then gone.
-pub(crate) fn bind(script: &mut RowScript, row: &RingRow<'_>, out: &mut Text) {
-    let ([ring, names @ ..], []) = (row.names.as_slice(), row.numbers.as_slice()) else {
-        return out.word(WRONG_WORDS);
-    };
-    let Some(closing) = script.closings.remove(*ring) else {
-        return out.word("fault: no such ring");
-    };
-    let chapters = collect(script.alloc, &mut script.chapters, names);
-    let (fault, closing, chapters) = if chapters.len() == names.len() {
-        match closing.bind(script.alloc, chapters) {
-            Ok(whole) => return tell_entries(out, whole.history()),
-            Err((fault, closing, chapters)) => (bind_word(fault), closing, chapters),
-        }
-    } else {
-        ("fault: no such chapter", closing, chapters)
-    };
-    out.word(fault);
-    keep(script.alloc, &mut script.closings, ring, closing, out);
-    keep_chapters(script, names, chapters, out);
 }

@@ -1,26 +1,28 @@
 //! Rows on sheets, the byte buffers of records.
 
 use crate::row::RingRow;
-use crate::script::{LONGEST, RowScript, WRONG_WORDS, keep};
+use crate::script::{LONGEST, Named, RowScript, WRONG_WORDS, keep};
 use crate::sheets::write_at;
 use crate::text::Text;
 use rb_lend::{Lent, Sheet};
+use std::alloc::Global;
 
 /// The verbs of rows on sheets.
 pub(crate) const VERBS: [&str; 3] = ["sheet", "renew", "wipe"];
 
 /// Answers a row on sheets.
 pub(crate) fn answer(script: &mut RowScript, row: &RingRow<'_>, out: &mut Text) {
+    let (alloc, sheets) = (script.alloc, &mut script.sheets);
     match row.form() {
-        "sheet x 0" => make(script, row.name(0), row.number(0), out),
-        "renew x 0" => renew(script, row.name(0), row.number(0), out),
-        "wipe x" => wipe(script, row.name(0), out),
+        "sheet x 0" => make(alloc, sheets, row.name(0), row.number(0), out),
+        "renew x 0" => renew(alloc, sheets, row.name(0), row.number(0), out),
+        "wipe x" => wipe(sheets, row.name(0), out),
         _ => out.word(WRONG_WORDS),
     }
 }
 
-fn wipe(script: &mut RowScript, name: &str, out: &mut Text) {
-    match script.sheets.get_mut(name) {
+fn wipe(sheets: &mut Named<Sheet>, name: &str, out: &mut Text) {
+    match sheets.get_mut(name) {
         Some(sheet) => {
             sheet.clear();
             tell_sheet(out, sheet);
@@ -30,29 +32,29 @@ fn wipe(script: &mut RowScript, name: &str, out: &mut Text) {
 }
 
 // Creates a sheet.
-fn make(script: &mut RowScript, name: &str, n: u64, out: &mut Text) {
+fn make(alloc: Global, sheets: &mut Named<Sheet>, name: &str, n: u64, out: &mut Text) {
     if n > LONGEST {
         return out.word(WRONG_WORDS);
     }
-    match Sheet::new(script.alloc, n as u32) {
+    match Sheet::new(alloc, n as u32) {
         Ok(sheet) => {
             tell_sheet(out, &sheet);
-            keep(script.alloc, &mut script.sheets, name, sheet, out);
+            keep(alloc, sheets, name, sheet, out);
         }
         Err(_) => out.word("fault: no memory"),
     }
 }
 
 // Renews a sheet for another length.
-fn renew(script: &mut RowScript, name: &str, n: u64, out: &mut Text) {
+fn renew(alloc: Global, sheets: &mut Named<Sheet>, name: &str, n: u64, out: &mut Text) {
     if n > LONGEST {
         return out.word(WRONG_WORDS);
     }
-    match script.sheets.remove(name) {
+    match sheets.remove(name) {
         Some(sheet) => {
             let sheet = renewed(sheet, n as u32);
             tell_sheet(out, &sheet);
-            keep(script.alloc, &mut script.sheets, name, sheet, out);
+            keep(alloc, sheets, name, sheet, out);
         }
         None => out.word("fault: no such sheet"),
     }

@@ -14,7 +14,9 @@ use crate::twin_calls::{
     ChapterAnswer, end_in_chapter, end_in_list, opened_list, opened_ring, output_in_chapter,
     output_in_list, reserve_in_chapter, reserve_in_list, tell_opened,
 };
-use rb_chapter_ring::{Chapter, Entries, RecordEnd, Reservation, RingState, UntakenStatus};
+use rb_chapter_ring::{
+    Chapter, Entries, RecordEnd, Reservation, RingState, UntakenRecord, UntakenStatus,
+};
 use rb_for_tests::{PlainReservation, PlainRing};
 use rb_history::{Entry, Taken};
 use rb_ledger::bind_chapters;
@@ -236,17 +238,13 @@ impl TwinRings {
 
     // Whether a busy record has the reservation's four numbers.
     fn has_busy(&self, record: &PlainReservation) -> bool {
+        let (worker, len) = (u64::from(record.worker()), u64::from(record.len()));
+        let wanted = [record.pos(), worker, record.serial(), len];
+        let mut found = false;
         for untaken in self.ring.chapter().closing().records() {
-            if matches!(untaken.status, UntakenStatus::Busy)
-                && untaken.pos == record.pos()
-                && untaken.worker == record.worker()
-                && untaken.serial == record.serial()
-                && untaken.len == record.len()
-            {
-                return true;
-            }
+            found = found || is_busy(untaken, &wanted);
         }
-        false
+        found
     }
 
     fn has_worker(&self, worker: u32) -> bool
@@ -281,6 +279,13 @@ impl TwinRings {
             tell_entries(out, history);
         }
     }
+}
+
+// Whether a record is busy and has this position, worker, serial and length.
+fn is_busy(record: &UntakenRecord, wanted: &[u64; 4]) -> bool {
+    let (worker, len) = (u64::from(record.worker), u64::from(record.len));
+    matches!(record.status, UntakenStatus::Busy)
+        && [record.pos, worker, record.serial, len] == *wanted
 }
 
 // Returns whether the history has this many entries, followed by those of a chapter.

@@ -8,6 +8,7 @@ use super::rings_with_seats::{ROOM, discarded, granted, one_seat, output};
 use crate::expected::same_of;
 use rb_consumer::Batch;
 use rb_io::DeviceFault;
+use rb_shared_ring::{Seat, SharedRing};
 use rb_tape::{Event, Item, TapeWriter};
 use std::alloc::Global;
 use std::io;
@@ -135,14 +136,21 @@ fn written(rt: &impl Abort, batch: &Batch, writer: OneByteWriter) -> TapeWriter<
     tape
 }
 
+// Outputs a record of eight bytes, and discards another.
+fn output_and_discard<R: Wait + Abort>(rt: &R, alloc: Global, ring: &SharedRing, seat: &mut Seat)
+    requires { seat.old.ring ≡ ring.now.ring }
+{
+    output(rt, alloc, ring, seat, 8, 7);
+    let given_up = granted(rt, alloc, ring, seat, 8);
+    discarded(rt, ring, seat, given_up);
+}
+
 // Returns a batch of the two records, taken from a ring.
 fn two_records<R: Wait + Abort>(rt: &R, alloc: Global) -> Batch
     ensures { AreItemsFrom 4096 0 (tape_items result.taken) }
 {
     let (ring, mut seat, mut consumer) = one_seat(rt, alloc, 1, ROOM);
-    let _notice = output(rt, alloc, &ring, &mut seat, 8, 7);
-    let given_up = granted(rt, alloc, &ring, &mut seat, 8);
-    let _notice = discarded(rt, &ring, &mut seat, given_up);
+    output_and_discard(rt, alloc, &ring, &mut seat);
     let mut batch = Batch::with_capacity(alloc, 64).expect(rt, "memory");
     let Ok(2) = batch.fill(rt, &ring, &mut consumer) else {
         rt.panic("not both records");

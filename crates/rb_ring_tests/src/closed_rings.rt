@@ -48,11 +48,34 @@ fn settle<R: Wait + Abort>(
     ensures zero { IsSameSeat zero.old zero.new }
     ensures one { IsSameSeat one.old one.new }
 {
-    let _notice = output(rt, alloc, ring, zero, 8, 1);
+    output(rt, alloc, ring, zero, 8, 1);
     let first = granted(rt, alloc, ring, one, 24);
     let second = granted(rt, alloc, ring, one, 8);
-    let _notice = submitted(rt, ring, one, second, 0);
-    let _notice = discarded(rt, ring, one, first);
+    submitted(rt, ring, one, second, 0);
+    discarded(rt, ring, one, first);
+}
+
+// Closes a ring with both its seats. Returns its counts: made, busy, waiting, consumed and discarded.
+fn closed_counts<R: Wait + Abort>(
+    rt: &R,
+    alloc: Global,
+    ring: SharedRing,
+    zero: Seat,
+    one: Seat,
+    consumer: ConsumerSeat,
+) -> (u64, u64, u64, u64, u64)
+    requires seats { (zero.ring ≡ ring.ring) × (one.ring ≡ ring.ring) }
+    requires consumer { consumer.ring ≡ ring.ring }
+{
+    let seats = vec![in alloc; zero, one].expect(rt, "memory");
+    let counts = closed(rt, ring, seats, consumer).counts();
+    (
+        counts.made,
+        counts.busy,
+        counts.waiting,
+        counts.consumed,
+        counts.discarded,
+    )
 }
 
 #[test]
@@ -64,17 +87,6 @@ fn seats_that_settled_all_leave_none_busy(rt: HostRuntime) {
         &[counts_of_seat(&zero), counts_of_seat(&one)],
         &[(1, 1, 0), (2, 1, 1)],
     );
-    let seats = vec![in rt.alloc(); zero, one].expect(&rt, "memory");
-    let counts = closed(&rt, ring, seats, consumer).counts();
-    same(
-        &rt,
-        &(
-            counts.made,
-            counts.busy,
-            counts.waiting,
-            counts.consumed,
-            counts.discarded,
-        ),
-        &(3, 0, 2, 0, 1),
-    );
+    let counts = closed_counts(&rt, rt.alloc(), ring, zero, one, consumer);
+    same(&rt, &counts, &(3, 0, 2, 0, 1));
 }

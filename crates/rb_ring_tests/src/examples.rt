@@ -33,19 +33,23 @@ fn example_of_the_bytes_of_a_record(rt: HostRuntime) {
     same(&rt, &Header::from_bytes(&bytes), &Ok(header));
 }
 
+// Returns a sheet of four bytes, the second and third of which are 9.
+fn two_nines(rt: &impl Abort, alloc: Global) -> Sheet {
+    let mut sheet = sheet(rt, alloc, 4);
+    sheet.range_mut(1, 2).fill(9);
+    sheet
+}
+
 #[test]
 fn example_of_rb_lend(rt: HostRuntime) {
-    let mut sheet = sheet(&rt, rt.alloc(), 4);
-    sheet.range_mut(1, 2).fill(9);
+    let sheet = two_nines(&rt, rt.alloc());
     same(&rt, &sheet.bytes(), &[0, 9, 9, 0].as_slice());
 }
 
 #[test]
 fn example_of_the_parts_of_memory(rt: HostRuntime) {
-    let mut sheet = sheet(&rt, rt.alloc(), 4);
-    sheet.range_mut(1, 2).fill(9);
     let mut parts: Parts<&[u8], Sheet> = Parts::new([5, 6, 7].as_slice());
-    let slot = parts.hold(sheet).ok();
+    let slot = parts.hold(two_nines(&rt, rt.alloc())).ok();
     let read = parts.read(Part::Record(Slot::First), 0, 2).ok();
     let is_outside = parts.read(Part::Ctx, 2, 2).is_err();
     same(
@@ -53,6 +57,7 @@ fn example_of_the_parts_of_memory(rt: HostRuntime) {
         &(slot, read, is_outside),
         &(Some(Slot::First), Some([0, 9].as_slice()), true),
     );
+    drop(parts);
 }
 
 #[test]
@@ -73,16 +78,24 @@ fn is_first_event(taken: &Taken) -> bool {
 #[test]
 fn example_of_the_plain_ring(rt: HostRuntime) {
     let mut ring = PlainRing::new(rt.alloc(), 4096, 0, 1).expect(&rt, "a ring");
-    let reserved = ring.reserve(0, 4, sheet(&rt, rt.alloc(), 4));
-    let mut record = reserved.ok().expect(&rt, "a record");
-    record.bytes_mut().fill(42);
-    let notice = ring.submit(record, 0).ok();
+    let notice = submit_first(&rt, rt.alloc(), &mut ring);
     let is_event = is_first_event(&ring.take());
     same(
         &rt,
         &(notice, is_event, ring.counts().consumed),
         &(Some(Notice::Due), true, 1),
     );
+    drop(ring);
+}
+
+// Submits a record of four bytes. Returns the notice.
+fn submit_first(rt: &impl Abort, alloc: Global, ring: &mut PlainRing) -> Option<Notice>
+    requires { ring.old.setup.workers ≡ 1 }
+{
+    let reserved = ring.reserve(0, 4, sheet(rt, alloc, 4));
+    let mut record = reserved.ok().expect(rt, "a record");
+    record.bytes_mut().fill(42);
+    ring.submit(record, 0).ok()
 }
 
 // Returns the number of the chapter that the ring hands out, and its number of entries.
@@ -106,6 +119,7 @@ fn example_of_rb_chapter_ring(rt: HostRuntime) {
         &(names, hands, notice, chapter, is_first_event(&ring.take())),
         &((7, 2), (true, Some(0)), Notice::Due, (0, 2), true),
     );
+    drop(ring);
 }
 
 // Returns the chapter that the ring hands out, and whether the next record is the first of worker 0.
@@ -142,7 +156,7 @@ fn bound(rt: &impl Abort, alloc: Global, closing: Closing, chapter: Chapter) -> 
 fn example_of_rb_shared_ring(rt: HostRuntime) {
     let (ring, mut seat, mut consumer) = one_seat(&rt, rt.alloc(), 7, 8);
     let record = granted(&rt, rt.alloc(), &ring, &mut seat, 8);
-    let _notice = submitted(&rt, &ring, &mut seat, record, 0);
+    submitted(&rt, &ring, &mut seat, record, 0);
     let used = ring.used(&rt, &mut consumer);
     let (chapter, is_event) = chapter_and_event(&rt, rt.alloc(), &ring, &mut consumer);
     same(&rt, &(used, is_event), &(Ok((2, 1)), true));

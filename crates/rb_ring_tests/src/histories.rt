@@ -115,6 +115,11 @@ fn a_submitted_record_is_handed_out(rt: HostRuntime) {
     is_event(&rt, waiting.taken());
 }
 
+// Whether this is the skipped record of `stored`.
+fn is_skipped(taken: &Taken) -> bool {
+    matches!(taken, Taken::Skipped(48, 4))
+}
+
 #[test]
 fn a_discarded_record_is_skipped(rt: HostRuntime) {
     let discarded = stored(RecordState::Discarded);
@@ -126,6 +131,5 @@ fn a_discarded_record_is_skipped(rt: HostRuntime) {
         ],
         &[(true, false), (false, false)],
     );
-    let is_skipped = matches!(&discarded.taken(), Taken::Skipped(48, 4));
-    same(&rt, &is_skipped, &true);
+    same(&rt, &is_skipped(&discarded.taken()), &true);
 }

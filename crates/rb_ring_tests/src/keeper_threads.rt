@@ -115,4 +115,5 @@ fn four_producers_and_a_keeper(rt: HostRuntime) {
         &(160_000, 160_000, desk.chapters),
     );
     same(&rt, &counts_of(&closing), &(10_000, 10_000, 0, 0, 0));
+    drop((desk, closing));
 }

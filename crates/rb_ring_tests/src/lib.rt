@@ -1,5 +1,7 @@
 //! Tests of the ring's crates through their public calls: the examples of their module docs, and what is not a row of
 //! `rb_ring_rows`: values that no ring creates, devices that fail, conclusions of a caller, and threads.
+//!
+//! Tests end with `drop` of what has many fields, since the prover then reads one call in place of a step for each field.
 #![tactic(auto)]
 
 #[cfg(test)]

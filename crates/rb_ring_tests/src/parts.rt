@@ -90,6 +90,7 @@ fn new_parts_are_zero_bytes_a_context_and_empty_slots(rt: HostRuntime) {
         given_len(&mut parts, Slot::Fourth),
     ];
     same(&rt, &given, &[None, None]);
+    drop(parts);
 }
 
 #[test]
@@ -98,6 +99,7 @@ fn a_range_is_what_read_lends(rt: HostRuntime) {
     let parts: Parts<&[u8], Sheet> = Parts::new(context.as_slice());
     reads(&rt, &parts, Part::Ctx, 1, &[6, 7]);
     same_bytes(&rt, parts.range(Part::Ctx, 1, 2), &[6, 7]);
+    drop(parts);
 }
 
 const FIRST: Part = Part::Record(Slot::First);
@@ -128,6 +130,7 @@ fn reads_are_outside_at_each_edge(rt: HostRuntime) {
         let is_outside = parts.read(part, off, len).is_err();
         same_of(&rt, &is_outside, &outside, &(part, off, len));
     }
+    drop(parts);
 }
 
 #[test]
@@ -150,6 +153,7 @@ fn writes_are_outside_at_each_edge(rt: HostRuntime) {
         let is_cleared = clear_if(&mut parts, part, off, len);
         same_of(&rt, &is_cleared, &cleared, &(part, off, len));
     }
+    drop(parts);
 }
 
 #[test]
@@ -165,6 +169,7 @@ fn a_write_changes_its_range_alone(rt: HostRuntime) {
     reads(&rt, &parts, Part::Stack, 509, &[0, 7, 7]);
     reads(&rt, &parts, FIRST, 0, &[0, 0, 8, 8, 0]);
     reads(&rt, &parts, Part::Ctx, 0, &[5, 6, 7]);
+    drop(parts);
 }
 
 /// Returns the length of the record that the parts hand back in place of a fifth one.
@@ -198,6 +203,7 @@ fn a_fifth_record_is_handed_back(rt: HostRuntime) {
     same(&rt, &(back, given), &(5, [Some(2), None]));
     hold(&rt, rt.alloc(), &mut parts, 6, Slot::Second);
     reads(&rt, &parts, SECOND, 0, &[0; 6]);
+    drop(parts);
 }
 
 /// Copies the context to the stack and fills two records, while all of them are lent.
@@ -227,11 +233,12 @@ fn copy_context<C: Context, R: Lent>(parts: &mut Parts<C, R>, len: usize)
 fn all_parts_are_lent_at_once(rt: HostRuntime) {
     let context = [5, 6, 7];
     let mut parts: Parts<&[u8], Sheet> = Parts::new(context.as_slice());
-    let _slot = parts.hold(sheet(&rt, rt.alloc(), 3)).is_ok();
-    let _slot = parts.hold(sheet(&rt, rt.alloc(), 2)).is_ok();
+    let _ = parts.hold(sheet(&rt, rt.alloc(), 3));
+    let _ = parts.hold(sheet(&rt, rt.alloc(), 2));
     copy_context(&mut parts, 3);
     reads(&rt, &parts, Part::Stack, 0, &[5, 6, 7, 0]);
     reads(&rt, &parts, FIRST, 0, &[1, 1, 1]);
+    drop(parts);
 }
 
 #[test]
@@ -245,4 +252,5 @@ fn the_whole_stack_and_a_whole_record_are_lent(rt: HostRuntime) {
     reads(&rt, &parts, Part::Stack, 510, &[3, 3]);
     same(&rt, &parts.records.first.is_some(), &true);
     reads(&rt, &parts, FIRST, 0, &[4, 4]);
+    drop(parts);
 }

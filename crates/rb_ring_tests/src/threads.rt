@@ -157,4 +157,5 @@ fn four_producers_and_a_consumer(rt: HostRuntime) {
     same(&rt, &sends(&closing), &true);
     same(&rt, &counts_of(&closing), &(40_000, 40_000, 0, 0, 0));
     same(&rt, &places_of(&closing), &(640_000, 640_000, chapters));
+    drop(closing);
 }

@@ -10,7 +10,7 @@ use Rattle.rb_interp.specs.AnsweredCalls.{notes_of}
 use Rattle.rb_run_cost.specs.CallCosts.{asked_span, AreCallsWithin}
 use Rattle.rb_run_cost.proofs.TracedCalls.{calls_stay}
 use Rattle.rb_jobs.specs.SeatHelpers.{is_no_record}
-use Rattle.rb_jobs.specs.SeatRecords.{reserved_bytes, with_record_bytes}
+use Rattle.rb_chapter_ring.specs.RingRecords.{reserved_bytes, with_record_bytes}
 use Rattle.rb_run_cost.specs.JobRequests.{Request, request_at, granted_by, refused_by, MayLeave, AreLeft}
 use Rattle.rb_run_cost.specs.JobCosts.{requested_bytes, JobsAskWithin}
 use Rattle.rb_run_cost.proofs.Leaving.{calls_leave}

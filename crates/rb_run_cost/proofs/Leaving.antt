@@ -19,7 +19,7 @@ use Rattle.rb_interp.specs.ErrorNumbers.{EAGAIN, EINVAL}
 use Rattle.rb_interp.specs.declared.completed_call.Done.{Done}
 use Rattle.rb_interp.specs.declared.completed_call.Done.TheVariants.{Reserve, Submit, Discard, Output, Query}
 use Rattle.rb_interp.specs.AnsweredCalls.{AnsweredCall, Reserved, Submitted, Discarded, SentOut, Queried, note_of}
-use Rattle.rb_jobs.specs.declared.seat_record.SeatRecord.{SeatRecord}
+use Rattle.rb_chapter_ring.specs.declared.ring_record.RingRecord.{RingRecord}
 use Rattle.rb_jobs.specs.SeatCalls.{AtSeat, CallsSeats, OutputAnswered, RecordAnswered, SeatIsGranted, SeatFindsFull, SeatFindsChapterFull, SeatOutputs, SeatQueries, SeatDiscards, SeatIsRefused, SeatSubmits, NoHandOrSheet, HasNoSheet}
 use Rattle.rb_jobs.proofs.Lists.{get_set_here, get_set_other}
 use Rattle.rb_run_cost.specs.JobRequests.{Request, request_of, requests_of, request_at, MayLeave, AddsRequests, CallsLeaveRequests}
@@ -153,7 +153,7 @@ leaves_one call r Did old new at here others ring b got =
     (λ other. (b, [], ap (λ xs. slice_get xs ring) at.new_is ∙ (get_set_other old r ring at.after other ∙ got), no_change b, others ring other))
     (cases_eq ring r)
 
-reserve_leaves : (r n flags unlogged : ℕ) (old new : List WorkerSeat) (answer : Option SeatRecord) (due : Bool) → CallsSeats (Reserved r n flags answer) due unlogged old new
+reserve_leaves : (r n flags unlogged : ℕ) (old new : List WorkerSeat) (answer : Option RingRecord) (due : Bool) → CallsSeats (Reserved r n flags answer) due unlogged old new
     → CallLeaves (Reserve r n flags (is_some answer)) old new
 reserve_leaves r n flags unlogged old new (Some owned) due did =
     leaves_one (Reserve r n flags true) r _ old new did.0.3
@@ -203,7 +203,7 @@ output_leaves r bytes flags answer due unlogged old new did =
     failed)
     did.answer_is.1
 
-call_leaves : (call : AnsweredCall SeatRecord) (due : Bool) (unlogged : ℕ) (old new : List WorkerSeat) → CallsSeats call due unlogged old new → CallLeaves (note_of call) old new
+call_leaves : (call : AnsweredCall RingRecord) (due : Bool) (unlogged : ℕ) (old new : List WorkerSeat) → CallsSeats call due unlogged old new → CallLeaves (note_of call) old new
 call_leaves (Reserved r n flags answer) due unlogged old new did = reserve_leaves r n flags unlogged old new answer due did
 call_leaves (Submitted owned flags taken) due unlogged old new did =
     given_leaves (Submit flags taken) owned.ring taken due _ old new (submit_adds owned.reservation flags taken due) (λ ring. inl refl) did.0

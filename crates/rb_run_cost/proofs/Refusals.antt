@@ -24,7 +24,7 @@ use Rattle.rb_run_cost.specs.JobRequests.{Request, request_of, requests_of, AreL
 use Rattle.rb_run_cost.specs.JobCosts.{requested_bytes}
 use Rattle.rb_run_cost.proofs.Asking.{all_calls}
 use Rattle.rb_jobs.specs.declared.job.Job.{Job}
-use Rattle.rb_jobs.specs.SeatRecords.{reserved_bytes, with_record_bytes}
+use Rattle.rb_chapter_ring.specs.RingRecords.{reserved_bytes, with_record_bytes}
 use Rattle.rb_interp.specs.declared.completed_call.Done.{Done}
 use Rattle.rb_interp.specs.AnsweredCalls.{notes_of}
 use Rattle.rb_jobs.specs.SeatHelpers.{makes, fails, call_total, refused_in}

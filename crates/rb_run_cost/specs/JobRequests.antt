@@ -6,7 +6,7 @@ use Rattle.rb_interp.specs.declared.completed_call.Done.{Done}
 use Rattle.rb_interp.specs.declared.completed_call.Done.TheVariants.{Reserve, Output}
 use Rattle.rb_interp.specs.AnsweredCalls.{AnsweredCall, notes_of}
 use Rattle.rb_ledger.specs.Seats.{WorkerSeat}
-use Rattle.rb_jobs.specs.declared.seat_record.SeatRecord.{SeatRecord}
+use Rattle.rb_chapter_ring.specs.declared.ring_record.RingRecord.{RingRecord}
 use Rattle.rb_jobs.specs.SeatHelpers.{SeatsLead, is_no_record}
 
 -- ---- requests in a history
@@ -71,5 +71,5 @@ pub record LeavesRequests (ring : ℕ) (calls : List Done) (before : WorkerSeat)
 -- ring, the worker's requests are its earlier ones followed by those of the calls, in order.
 abbrev pub CallsLeaveRequests : Type 0
 CallsLeaveRequests =
-    (old new : List WorkerSeat) (calls : List (AnsweredCall SeatRecord)) (unlogged ring : ℕ) (before : WorkerSeat) → SeatsLead old calls unlogged new
+    (old new : List WorkerSeat) (calls : List (AnsweredCall RingRecord)) (unlogged ring : ℕ) (before : WorkerSeat) → SeatsLead old calls unlogged new
     → slice_get old ring ≡ Some before → LeavesRequests ring (notes_of calls) before new

@@ -2,6 +2,7 @@
 
 ghost use Rattle.std.specs.Prelude.{◌≡◌, [], length};
 
+use super::expected::same;
 use super::shared::{SUBMIT_42, verified};
 use rb_chapter_ring::OpenFault;
 use rb_engine::{Engine, NoRun, NotSent};
@@ -50,14 +51,17 @@ fn runs_puts_and_takes_go_on_where_the_one_before_ended(rt: HostRuntime) {
     let second = is_event(engine.take(0), 16, &[42, 0, 0, 0, 0, 0, 0, 0]);
     let third = is_event(engine.take(0), 32, &[1, 2, 3]);
     let is_empty = matches!(engine.take(0), Taken::Empty);
-    assert_eq!(rt;
-        (number, results, notice),
-        (0, [Ok(0), Ok(0)], Ok(Notice::NotDue))
+    same(
+        &rt,
+        &(number, results, notice),
+        &(0, [Ok(0), Ok(0)], Ok(Notice::NotDue)),
     );
-    assert_eq!(rt;
-        (lengths, first, second, third, is_empty),
-        ((Some(8), None), true, true, true, true)
+    same(
+        &rt,
+        &(lengths, first, second, third, is_empty),
+        &((Some(8), None), true, true, true, true),
     );
+    drop(engine);
 }
 
 #[test]
@@ -85,15 +89,22 @@ fn queries_and_counts_are_those_of_all_calls(rt: HostRuntime) {
         waiting: 1,
         busy: 0,
     };
-    assert_eq!(rt;
-        (results, refused, is_skipped),
-        ([Ok(7), Ok(0)], Err(NotSent::Full), true)
+    same(
+        &rt,
+        &(results, refused, is_skipped),
+        &([Ok(7), Ok(0)], Err(NotSent::Full), true),
     );
-    assert_eq!(rt; (answers, engine.counts(0)), ([16, 4096, 16, 32], counts));
-    assert_eq!(rt;
-        (engine.rings(), engine.programs(), engine.ctx_len()),
-        (2, 2, 16)
+    same(
+        &rt,
+        &(answers, engine.counts(0)),
+        &([16, 4096, 16, 32], counts),
     );
+    same(
+        &rt,
+        &(engine.rings(), engine.programs(), engine.ctx_len()),
+        &(2, 2, 16),
+    );
+    drop(engine);
 }
 
 #[test]
@@ -112,11 +123,13 @@ fn refusals_have_their_reasons(rt: HostRuntime) {
         engine.put(1, &[5], NO_WAKEUP),
         engine.put(1, &[5], FORCE_WAKEUP),
     ];
-    assert_eq!(rt;
-        (short, faults),
-        (Err(NoRun::ContextLength), [Some(OpenFault::Size), None])
+    same(
+        &rt,
+        &(short, faults),
+        &(Err(NoRun::ContextLength), [Some(OpenFault::Size), None]),
     );
-    assert_eq!(rt; notices, [Ok(Notice::NotDue), Ok(Notice::Due)]);
+    same(&rt, &notices, &[Ok(Notice::NotDue), Ok(Notice::Due)]);
+    drop(engine);
 }
 
 // Puts a byte into ring 0 and takes it. Returns whether the byte was at this position and the only record of the ring.
@@ -140,5 +153,6 @@ fn a_ring_goes_on_through_its_chapters(rt: HostRuntime) {
     } else {
         0
     };
-    assert_eq!(rt; (passed, consumed), (true, 2000));
+    same(&rt, &(passed, consumed), &(true, 2000));
+    drop(engine);
 }

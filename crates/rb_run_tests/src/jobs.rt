@@ -4,7 +4,7 @@ ghost use Rattle.std.specs.Prelude.{◌≡◌, ◌≤◌, length};
 ghost use Rattle.rb_jobs.specs.SeatHelpers.{AtRings, IsAt};
 
 use super::expected::same;
-use super::shared::{HOLD_FOUR, SUBMIT_42, counts, is_next, opened, verified};
+use super::shared::{HOLD_FOUR, SUBMIT_42, counts, is_next, one_seat, opened, verified};
 use rb_history::Taken;
 use rb_interp::RunFault;
 use rb_jobs::{Gate, Job, JobAnswer, NoStock, jobs_give_back, run_job};
@@ -104,14 +104,14 @@ fn jobs_submit_42_and_come_to_the_gate_at_each_call(rt: HostRuntime) {
     let gate = CallOrder::new();
     let mut calls = 0;
     let job = job(&program, &CONTEXT);
-    let seats = vec![in alloc; seat].expect(&rt, "memory");
+    let seats = one_seat(&rt, alloc, seat);
     let (told, seats) = ran(&rt, alloc, &rings, seats, &job, &gate, &mut calls);
     same(
         &rt,
         &(told, calls),
         &((ended_with_0(0), Some((1, 0, 1, 0))), 2),
     );
-    let (told, _seats) = ran(&rt, alloc, &rings, seats, &job, &gate, &mut calls);
+    let (told, _) = ran(&rt, alloc, &rings, seats, &job, &gate, &mut calls);
     same(&rt, &told, &(ended_with_0(0), Some((2, 0, 2, 0))));
     let bytes = [42, 0, 0, 0, 0, 0, 0, 0];
     is_next(&rt, &rings[0], &mut consumer, (0, 0, 0, &bytes));
@@ -122,6 +122,7 @@ fn jobs_submit_42_and_come_to_the_gate_at_each_call(rt: HostRuntime) {
         &(is_empty, calls, gate.next.get(), gate.other.get()),
         &(true, 4, 4, false),
     );
+    drop((rings, consumer, program));
 }
 
 // The results of a job at a ring: its answer, the seat's counts, the number of the next call, how often its gate was
@@ -148,7 +149,7 @@ fn told_by_job<R: Wait + Abort>(
     let gate = CallOrder::new();
     let mut calls = first_call;
     let job = job(&program, context);
-    let (told, _seats) = ran(rt, alloc, rings, seats, &job, &gate, &mut calls);
+    let (told, _) = ran(rt, alloc, rings, seats, &job, &gate, &mut calls);
     (told, (calls, gate.next.get(), gate.other.get()))
 }
 
@@ -157,7 +158,7 @@ fn a_job_outputs_bytes_of_its_context(rt: HostRuntime) {
     let alloc = rt.alloc();
     let (ring, seat, mut consumer) = opened(&rt, alloc, 3, 8);
     let rings = [ring];
-    let seats = vec![in alloc; seat].expect(&rt, "memory");
+    let seats = one_seat(&rt, alloc, seat);
     let told = told_by_job(
         &rt,
         alloc,
@@ -173,6 +174,7 @@ fn a_job_outputs_bytes_of_its_context(rt: HostRuntime) {
         &((ended_with_0(0), Some((1, 0, 1, 0))), (u64::MAX, 1, true)),
     );
     is_next(&rt, &rings[0], &mut consumer, (0, 0, 0, &CONTEXT[..8]));
+    drop((rings, consumer));
 }
 
 #[test]
@@ -180,7 +182,7 @@ fn a_context_of_another_length_makes_no_call(rt: HostRuntime) {
     let alloc = rt.alloc();
     let (ring, seat, mut consumer) = opened(&rt, alloc, 3, 8);
     let rings = [ring];
-    let seats = vec![in alloc; seat].expect(&rt, "memory");
+    let seats = one_seat(&rt, alloc, seat);
     let told = told_by_job(&rt, alloc, &rings, seats, SUBMIT_42, &CONTEXT[..3], 0);
     let refused = JobAnswer {
         result: Err(RunFault::ContextLength),
@@ -192,6 +194,7 @@ fn a_context_of_another_length_makes_no_call(rt: HostRuntime) {
         &((Ok(refused), Some((0, 0, 0, 0))), (0, 0, false)),
     );
     same(&rt, &is_empty(&rt, &rings[0], &mut consumer), &true);
+    drop((rings, consumer));
 }
 
 // Reserves a record of this many bytes.
@@ -207,32 +210,34 @@ fn reserved<R: Wait + Abort>(rt: &R, alloc: Global, ring: &SharedRing, seat: &mu
 #[test]
 fn a_full_ring_gives_null_and_is_logged(rt: HostRuntime) {
     let alloc = rt.alloc();
-    let (ring, mut seat, _consumer) = opened(&rt, alloc, 3, 8);
+    let (ring, mut seat, _) = opened(&rt, alloc, 3, 8);
     reserved(&rt, alloc, &ring, &mut seat, 4080);
     let rings = [ring];
-    let seats = vec![in alloc; seat].expect(&rt, "memory");
+    let seats = one_seat(&rt, alloc, seat);
     let told = told_by_job(&rt, alloc, &rings, seats, SUBMIT_42, &CONTEXT, 0);
     same(
         &rt,
         &told,
         &((ended_with_0(0), Some((1, 1, 0, 0))), (1, 1, false)),
     );
+    drop(rings);
 }
 
 #[test]
 fn a_full_chapter_gives_null_and_is_unlogged(rt: HostRuntime) {
     let alloc = rt.alloc();
-    let (ring, mut seat, _consumer) = opened(&rt, alloc, 3, 8);
+    let (ring, mut seat, _) = opened(&rt, alloc, 3, 8);
     reserved(&rt, alloc, &ring, &mut seat, 8);
     reserved(&rt, alloc, &ring, &mut seat, 8);
     let rings = [ring];
-    let seats = vec![in alloc; seat].expect(&rt, "memory");
+    let seats = one_seat(&rt, alloc, seat);
     let told = told_by_job(&rt, alloc, &rings, seats, SUBMIT_42, &CONTEXT, 0);
     same(
         &rt,
         &told,
         &((ended_with_0(1), Some((2, 0, 0, 0))), (1, 1, false)),
     );
+    drop(rings);
 }
 
 #[test]
@@ -240,7 +245,7 @@ fn a_job_holds_four_records_and_outputs_a_fifth(rt: HostRuntime) {
     let alloc = rt.alloc();
     let (ring, seat, mut consumer) = opened(&rt, alloc, 3, 64);
     let rings = [ring];
-    let seats = vec![in alloc; seat].expect(&rt, "memory");
+    let seats = one_seat(&rt, alloc, seat);
     let told = told_by_job(&rt, alloc, &rings, seats, HOLD_FOUR, &CONTEXT, 0);
     same(
         &rt,
@@ -253,20 +258,22 @@ fn a_job_holds_four_records_and_outputs_a_fifth(rt: HostRuntime) {
     is_next(&rt, &rings[0], &mut consumer, (48, 0, 3, &[0; 8]));
     is_next(&rt, &rings[0], &mut consumer, (64, 0, 4, &[0; 8]));
     same(&rt, &is_empty(&rt, &rings[0], &mut consumer), &true);
+    drop((rings, consumer));
 }
 
 #[test]
 // A record that was granted before and never submitted or discarded keeps its hand, so the program is granted three.
 fn a_fourth_record_finds_no_hand_where_one_was_dropped(rt: HostRuntime) {
     let alloc = rt.alloc();
-    let (ring, mut seat, _consumer) = opened(&rt, alloc, 3, 64);
+    let (ring, mut seat, _) = opened(&rt, alloc, 3, 64);
     reserved(&rt, alloc, &ring, &mut seat, 8);
     let rings = [ring];
-    let seats = vec![in alloc; seat].expect(&rt, "memory");
+    let seats = one_seat(&rt, alloc, seat);
     let told = told_by_job(&rt, alloc, &rings, seats, HOLD_FOUR, &CONTEXT, 0);
     same(
         &rt,
         &told,
         &((ended_with_0(1), Some((4, 0, 3, 0))), (7, 7, false)),
     );
+    drop(rings);
 }

@@ -1,6 +1,8 @@
 //! Tests of the other crates' public calls that are not rows: theorems, the helpers' list, references, single
 //! instructions of a program, helpers over seats, jobs, jobs on threads, worlds, and engines. Programs and their messages
 //! are rows of `rb_program_rows`.
+//!
+//! Tests end with `drop` of what has many fields, since the prover then reads one call in place of a step for each field.
 #![tactic(auto)]
 
 #[cfg(test)]

@@ -107,6 +107,7 @@ fn submit_42_executes_each_instruction_once(rt: HostRuntime) {
     let program = verified(&rt, rt.alloc(), SUBMIT_42, 16, 1);
     executes(&rt, rt.alloc(), &program, true, (11, &FORTY_TWO));
     executes(&rt, rt.alloc(), &program, false, (7, &[]));
+    drop(program);
 }
 
 #[test]
@@ -114,4 +115,5 @@ fn a_kept_answer_executes_each_instruction_once(rt: HostRuntime) {
     let program = verified(&rt, rt.alloc(), KEEP_AND_SUBMIT_42, 16, 1);
     executes(&rt, rt.alloc(), &program, true, (13, &FORTY_TWO));
     executes(&rt, rt.alloc(), &program, false, (9, &[]));
+    drop(program);
 }

@@ -1,12 +1,13 @@
 //! Shared by the tests: verified programs, and rings of 4,096 bytes with one seat.
 
-ghost use Rattle.std.specs.Prelude.{◌≡◌, ◌+◌, ◌≤◌, true};
+ghost use Rattle.std.specs.Prelude.{◌≡◌, ◌+◌, ◌≤◌, ◌∷◌, [], true};
 ghost use Rattle.rb_shared_ring.specs.SharedSeats.{IsSameChapterConsumer};
-ghost use Rattle.rb_jobs.specs.SeatHelpers.{IsAt};
+ghost use Rattle.rb_jobs.specs.SeatHelpers.{AtRings, IsAt};
 
 use super::expected::same;
 use rb_history::Taken;
 use rb_interp::Helpers;
+use rb_jobs::{OpenGate, SeatHelpers, Stock};
 use rb_lend::{Lent, Sheet};
 use rb_program::{from_text, shape};
 use rb_shared_ring::{ConsumerSeat, Seat, SharedRing, open};
@@ -74,6 +75,38 @@ pub(crate) fn opened<R: Wait + Abort>(
     match seats.pop() {
         Some(seat) => (ring, seat, consumer),
         None => rt.panic("no seat"),
+    }
+}
+
+/// Returns a list of one seat.
+pub(crate) fn one_seat(rt: &impl Abort, alloc: Global, seat: Seat) -> Vec<Seat>
+    ensures { result.items ≡ seat ∷ [] }
+{
+    vec![in alloc; seat].expect(rt, "memory")
+}
+
+/// Returns a list of two seats.
+pub(crate) fn two_seats(rt: &impl Abort, alloc: Global, one: Seat, two: Seat) -> Vec<Seat>
+    ensures { result.items ≡ one ∷ two ∷ [] }
+{
+    vec![in alloc; one, two].expect(rt, "memory")
+}
+
+/// Returns helpers over these rings and seats, with room for this many calls.
+pub(crate) fn helpers<'h, R: Wait + Abort, S: Stock>(
+    rt: &'h R,
+    alloc: Global,
+    rings: &'h [SharedRing],
+    seats: Vec<Seat>,
+    room: usize,
+    stock: &'h S,
+) -> SeatHelpers<'h, R, S, OpenGate>
+    requires { AtRings rings.now seats.items }
+    ensures { result ≡ record { rings = rings.now; seats = seats.items; trace = []; room = room; unlogged = 0 } }
+{
+    match SeatHelpers::new(rt, alloc, rings, seats, room, stock, &OpenGate) {
+        Ok(helpers) => helpers,
+        Err(_) => rt.panic("no memory"),
     }
 }
 

@@ -5,9 +5,9 @@ ghost use Rattle.std.specs.Prelude.{◌≡◌, ◌≤◌, ◌<◌, ◌+◌, true
 ghost use Rattle.rb_jobs.specs.SeatHelpers.{IsAt};
 
 use super::expected::{same, same_of};
-use super::shared::opened;
+use super::shared::{helpers, one_seat, opened, two_seats};
 use rb_interp::Helpers;
-use rb_jobs::{NoStock, OpenGate, SeatHelpers};
+use rb_jobs::NoStock;
 use rb_lend::Sheet;
 use rb_shared_ring::{Seat, SharedRing, WaitBackoff};
 use std::alloc::Global;
@@ -162,43 +162,27 @@ fn grant<A: Abort, H: Helpers>(rt: &A, helpers: &mut H, n: u32)
 #[test]
 // An output that gets a record does not wait.
 fn a_worker_waits_at_a_full_ring(rt: HostRuntime) {
-    let (full, one, _consumer) = opened(&rt, rt.alloc(), 0, 1_024);
-    let (other, two, _other_consumer) = opened(&rt, rt.alloc(), 1, 1_024);
+    let (full, one, _) = opened(&rt, rt.alloc(), 0, 1_024);
+    let (other, two, _) = opened(&rt, rt.alloc(), 1, 1_024);
     let rings = [full, other];
-    let seats = vec![in rt.alloc(); one, two].expect(&rt, "memory");
-    let opened = SeatHelpers::new(
-        &rt,
-        rt.alloc(),
-        rings.as_slice(),
-        seats,
-        401,
-        &NoStock,
-        &OpenGate,
-    );
-    let mut helpers = opened.ok().expect(&rt, "memory");
+    let seats = two_seats(&rt, rt.alloc(), one, two);
+    let mut helpers = helpers(&rt, rt.alloc(), &rings, seats, 401, &NoStock);
     grant(&rt, &mut helpers, 4_080);
     let (wait, output, refused) = shortest_times(&rt, &mut helpers, 200);
     let waits = refused >= output.saturating_add(wait / 8);
     same_of(&rt, &waits, &true, &(wait, output, refused));
+    drop(helpers);
+    drop(rings);
 }
 
 #[test]
 // The ring is called 64 times for each of these reservations. The other ring's chapter is full, too.
 fn a_worker_waits_for_the_keeper_of_a_full_chapter(rt: HostRuntime) {
-    let (ring, seat, _consumer) = opened(&rt, rt.alloc(), 0, 8);
-    let (other, mut free, _other_consumer) = opened(&rt, rt.alloc(), 1, 8);
+    let (ring, seat, _) = opened(&rt, rt.alloc(), 0, 8);
+    let (other, mut free, _) = opened(&rt, rt.alloc(), 1, 8);
     let rings = [ring];
-    let seats = vec![in rt.alloc(); seat].expect(&rt, "memory");
-    let opened = SeatHelpers::new(
-        &rt,
-        rt.alloc(),
-        rings.as_slice(),
-        seats,
-        22,
-        &NoStock,
-        &OpenGate,
-    );
-    let mut helpers = opened.ok().expect(&rt, "memory");
+    let seats = one_seat(&rt, rt.alloc(), seat);
+    let mut helpers = helpers(&rt, rt.alloc(), &rings, seats, 22, &NoStock);
     grant(&rt, &mut helpers, 8);
     grant(&rt, &mut helpers, 8);
     let first = is_granted(&rt, rt.alloc(), &other, &mut free);
@@ -208,4 +192,6 @@ fn a_worker_waits_for_the_keeper_of_a_full_chapter(rt: HostRuntime) {
     let (waits, calls, refused) = times;
     let waited = refused >= calls.saturating_add(waits / 4);
     same_of(&rt, &waited, &true, &(waits, calls, refused));
+    drop(helpers);
+    drop((rings, other, free));
 }

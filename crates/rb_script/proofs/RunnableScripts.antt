@@ -16,6 +16,7 @@ use Rattle.rb_world.specs.declared.world_fault.WorldOpenFault.TheVariants as fau
 use Rattle.rb_world.specs.OpenedWorlds.{IsRingSetup, AreRings, HaveContexts, HaveRings, HaveRooms, MayOpen, IsOpenedWorld}
 use Rattle.rb_world.proofs.Openings.{length-opened}
 use Rattle.rb_world.specs.WorldValue.{WorldValue, IsThere}
+use Rattle.rb_json.specs.declared.form.LineForm.{LineForm}
 use Rattle.rb_script.specs.declared.script.Script.{Script}
 use Rattle.rb_script.specs.declared.script.ScriptWorker.{ScriptWorker}
 use Rattle.rb_script.specs.Programs.{IsWorkersProgram}
@@ -149,10 +150,10 @@ actors-there s programs setups v may are opened =
     there (Keeper n) h rings workers = omega arith
 
 -- memory ran out after the programs were verified
-pub breaks-off : (draw : Bool) (s : Script) (lent programs : List Subject) (before after : List ℕ) → lent ≡ programs → AllZip (IsWorkersProgram (length s.rings.items)) (map worker_text s.workers.items) programs
-    → (after ≡ before) ⊎ BeginsSimulationWith draw s lent before after → BreaksOff draw s before after
-breaks-off draw s lent programs before after same accepted (inl none) = inl none
-breaks-off draw s lent programs before after same accepted (inr begun) = inr (record { programs = programs; accepted = accepted; begun = subst (λ l. BeginsSimulationWith draw s l before after) same begun })
+pub breaks-off : (form : LineForm) (draw : Bool) (s : Script) (lent programs : List Subject) (before after : List ℕ) → lent ≡ programs → AllZip (IsWorkersProgram (length s.rings.items)) (map worker_text s.workers.items) programs
+    → (after ≡ before) ⊎ BeginsSimulationWith form draw s lent before after → BreaksOff form draw s before after
+breaks-off form draw s lent programs before after same accepted (inl none) = inl none
+breaks-off form draw s lent programs before after same accepted (inr begun) = inr (record { programs = programs; accepted = accepted; begun = subst (λ l. BeginsSimulationWith form draw s l before after) same begun })
 
 -- the same, from the lent script and its workers' setups
 module _ (s : Script) (programs : List Subject) (setups : List WorkerSetup) (workers : List ScriptWorker) (rings : List RingSetup) (lent : List WorkerSetup) (workers_are : workers ≡ s.workers.items) (rings_are : rings ≡ s.rings.items)
@@ -170,15 +171,15 @@ module _ (s : Script) (programs : List Subject) (setups : List WorkerSetup) (wor
     pub there-lent : All (IsThere v) actors
     there-lent = subst (All (IsThere v)) (sym actors_are) (actors-there s programs setups v may setups-are opened-so)
 
-    pub began-with : (draw : Bool) (before after : List ℕ) → BeginsRun draw actors v before after → BeginsSimulationWith draw s programs before after
-    began-with draw before after begun = record { setups = setups; first = v; are = setups-are; opened = opened-so; begun = subst (λ l. BeginsRun draw l v before after) actors_are begun }
+    pub began-with : (form : LineForm) (draw : Bool) (before after : List ℕ) → BeginsRun form draw actors v before after → BeginsSimulationWith form draw s programs before after
+    began-with form draw before after begun = record { setups = setups; first = v; are = setups-are; opened = opened-so; begun = subst (λ l. BeginsRun form draw l v before after) actors_are begun }
 
-    pub ran-with : (draw : Bool) (last : WorldValue) (before after ends : List ℕ) → WritesRun draw actors v last before after → ends ≡ world_text last → SimulatesWith draw s programs before after ends
-    ran-with draw last before after ends written is = record { setups = setups; first = v; last = last; are = setups-are; opened = opened-so; written = subst (λ l. WritesRun draw l v last before after) actors_are written; ends_are = is }
+    pub ran-with : (form : LineForm) (draw : Bool) (last : WorldValue) (before after ends : List ℕ) → WritesRun form draw actors v last before after → ends ≡ world_text form last → SimulatesWith form draw s programs before after ends
+    ran-with form draw last before after ends written is = record { setups = setups; first = v; last = last; are = setups-are; opened = opened-so; written = subst (λ l. WritesRun form draw l v last before after) actors_are written; ends_are = is }
 
 -- all turns are the first turns
-pub all-begun : (draw : Bool) (actors : List Actor) (old new : WorldValue) (before after : List ℕ) → WritesRun draw actors old new before after → BeginsRun draw actors old before after
-all-begun draw actors old new before after written = record { turns = length actors; last = new; written = subst (λ l. WritesRun draw l old new before after) (sym (take_all (length actors) actors (omega arith))) written }
+pub all-begun : (form : LineForm) (draw : Bool) (actors : List Actor) (old new : WorldValue) (before after : List ℕ) → WritesRun form draw actors old new before after → BeginsRun form draw actors old before after
+all-begun form draw actors old new before after written = record { turns = length actors; last = new; written = subst (λ l. WritesRun form draw l old new before after) (sym (take_all (length actors) actors (omega arith))) written }
 
 pub on-err : {T E P : Type 0} (r : Result T E) → P → OnErr r P
 on-err (Ok x) p = tt

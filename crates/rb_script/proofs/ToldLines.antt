@@ -1,12 +1,13 @@
 -- Which line `sim` reports.
-use Rattle.std.proofs.Common.{Bool, ◌≡◌, ◌≤◌, ◌+◌, ◌⊎◌, ℕ, List, [], ◌∷◌, ◌++◌, length, map, Result, Ok, Err, refl, sym, ap, subst, ◌∙◌, inl, inr, arith}
+use Rattle.std.proofs.Common.{Bool, ◌≡◌, ◌+◌, ◌⊎◌, ℕ, List, [], ◌∷◌, length, map, Result, Ok, Err, refl, sym, ap, subst, ◌∙◌, inl, inr, arith}
 use Rattle.std.specs.Prelude.{Option, Some, None, IfErr, IfSome}
 use Rattle.std.specs.Io.KnownBytes.{Appends, Keeps}
 use Rattle.std.proofs.lemmas.List.{length-append, length-map}
 use Rattle.rb_world.specs.declared.world_setup.RingSetup.{RingSetup}
+use Rattle.rb_json.specs.declared.form.LineForm.{LineForm}
 use Rattle.rb_script.specs.declared.script.Script.{Script}
 use Rattle.rb_script.specs.Programs.{IsFirstRefused}
-use Rattle.rb_script.specs.ScriptText.{Statement, lines_of}
+use Rattle.rb_script.specs.ScriptText.{lines_of}
 use Rattle.rb_script.specs.Scripts.{WorkerText, IsFirstFault, StandFor, HasWorker, script_rings, script_workers, worker_text}
 use Rattle.rb_script.specs.Simulation.{Simulates, BreaksOff}
 use Rattle.rb_script.proofs.ScriptParts.{zip-one, one-fault, no-fault-of-script}
@@ -44,17 +45,17 @@ module _ (text : List ℕ) where
     told-refused l refused line (inr told) = inl (ap (λ n. err (Line n)) (one-refused (length s.rings.items) (map worker_text s.workers.items) l line refused (refused-too text s stands line told)))
 
     -- no line of a script that was run is at fault
-    pub none-told : (draw : Bool) (before after ends : List ℕ) → Simulates draw s before after ends → (line : ℕ) → IsSimFaultOf text (Line line) → ⊥
-    none-told draw before after ends ran line (inl first) = no-fault-of-script (lines_of text) s stands worker line first
-    none-told draw before after ends ran line (inr told) = none-refused (length s.rings.items) (map worker_text s.workers.items) ran.programs ran.accepted line (refused-too text s stands line told)
+    pub none-told : (form : LineForm) (draw : Bool) (before after ends : List ℕ) → Simulates form draw s before after ends → (line : ℕ) → IsSimFaultOf text (Line line) → ⊥
+    none-told form draw before after ends ran line (inl first) = no-fault-of-script (lines_of text) s stands worker line first
+    none-told form draw before after ends ran line (inr told) = none-refused (length s.rings.items) (map worker_text s.workers.items) ran.programs ran.accepted line (refused-too text s stands line told)
 
   -- memory ran out
-  pub broken-off : (draw : Bool) (s : Script) → StandFor (lines_of text) s → (none turns lent : List ℕ) (before after : Option (List ℕ)) → none ≡ [] → BreaksOff draw s none turns → lent ≡ turns → Appends before after lent → BreaksOffSim draw text before after
-  broken-off draw s stands none turns lent before after empty broken same printed = inr (record {
+  pub broken-off : (form : LineForm) (draw : Bool) (s : Script) → StandFor (lines_of text) s → (none turns lent : List ℕ) (before after : Option (List ℕ)) → none ≡ [] → BreaksOff form draw s none turns → lent ≡ turns → Appends before after lent → BreaksOffSim form draw text before after
+  broken-off form draw s stands none turns lent before after empty broken same printed = inr (record {
     script = s;
     turns = turns;
     stands = stands;
-    broken_off = subst (λ old. BreaksOff draw s old turns) empty broken;
+    broken_off = subst (λ old. BreaksOff form draw s old turns) empty broken;
     turns_printed = subst (Appends before after) same printed;
   })
 

@@ -1,23 +1,37 @@
-//! Draws a ring as one line.
+//! Draws a ring as one line in words, or as a JSON object.
 
 ghost use Rattle.std.specs.Prelude.{◌≡◌, ◌-◌, ◌++◌, OnOk, map};
 ghost use Rattle.std.specs.List.{flat_map};
 ghost use Rattle.rb_chapter_ring.specs.UntakenRecords.{status_shown, untaken_shown};
+ghost use Rattle.rb_json.specs.declared.form.LineForm.TheVariants.{Words};
 ghost use Rattle.rb_script.specs.Drawings.{box_text, drawing_end, drawing_front, drawing_line, status_word};
 
-use crate::output_lines::push_number;
+use crate::drawing_objects::push_drawing_object;
+use crate::word_lines::push_number;
 use rb_chapter_ring::{Snapshot, UntakenRecord, UntakenStatus};
 use rb_history::span;
+use rb_json::LineForm;
 use std::alloc::AllocError;
 
 // Appends the drawing of a ring, from a summary of the end of its chapter: its positions, the records between them, and
 // the free bytes.
 pub(crate) fn push_drawing(
     text: &mut Vec<u8>,
+    form: LineForm,
     ring: u32,
     closing: &Snapshot,
 ) -> Result<(), AllocError>
-    ensures line { OnOk result (text.new.items ≡ text.old.items ++ drawing_line ring closing.now.opening.setup.size closing.now.opening.consumer closing.now.opening.producer closing.now.opening.records) }
+    ensures line { OnOk result (text.new.items ≡ text.old.items ++ drawing_line form ring closing.now.opening.setup.size closing.now.opening.consumer closing.now.opening.producer closing.now.opening.records) }
+{
+    match form {
+        LineForm::Words => push_drawing_words(text, ring, closing),
+        LineForm::Json => push_drawing_object(text, ring, closing),
+    }
+}
+
+// Appends the drawing in words.
+fn push_drawing_words(text: &mut Vec<u8>, ring: u32, closing: &Snapshot) -> Result<(), AllocError>
+    ensures line { OnOk result (text.new.items ≡ text.old.items ++ drawing_line Words ring closing.now.opening.setup.size closing.now.opening.consumer closing.now.opening.producer closing.now.opening.records) }
 {
     let numbers = closing.numbers();
     push_front(text, ring, numbers.consumer)?;
@@ -49,7 +63,7 @@ fn push_end(text: &mut Vec<u8>, size: u64, consumer: u64, producer: u64) -> Resu
 }
 
 // Returns how many bytes of a ring are not between its positions.
-fn free_in(size: u64, consumer: u64, producer: u64) -> u64
+pub(crate) fn free_in(size: u64, consumer: u64, producer: u64) -> u64
     ensures { result ≡ size - (producer - consumer) }
 {
     size.saturating_sub(producer.saturating_sub(consumer))
@@ -81,7 +95,7 @@ fn push_box(text: &mut Vec<u8>, untaken: &UntakenRecord) -> Result<(), AllocErro
 }
 
 // Returns the word for a record's status.
-fn word_of(status: UntakenStatus) -> &'static str
+pub(crate) fn word_of(status: UntakenStatus) -> &'static str
     ensures { result.now ≡ status_word (status_shown status) }
 {
     match status {

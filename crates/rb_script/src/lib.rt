@@ -1,8 +1,9 @@
 //! Scripts of worlds: rings, workers with their programs, and the turns that they take, one per line.
 //!
 //! A script is read as a whole. Then its programs are verified and its turns are run in a `World`. Each take and each
-//! chapter writes a line, and at the end each worker and each ring does. The command `sim` does this from a reader to a
-//! writer. Records follow Linux Documentation/bpf/ringbuf.rst, and calls follow bpf-helpers(7).
+//! chapter writes a line, and at the end each worker and each ring does: in words, or as a JSON object. The command
+//! `sim` does this from a reader to a writer. Records follow Linux Documentation/bpf/ringbuf.rst, and calls follow
+//! bpf-helpers(7).
 //!
 //! ```text
 //! ring 4096 0          a ring: its size, its start, and the room of its chapters (default: 65536)
@@ -13,7 +14,9 @@
 //! ```
 #![tactic(auto)]
 
+mod drawing_objects;
 mod drawings;
+mod object_lines;
 mod output_lines;
 mod programs;
 mod reasons;
@@ -23,6 +26,7 @@ mod script_line;
 mod sim_command;
 mod simulation;
 mod turn_watch;
+mod word_lines;
 
 pub use reasons::line_reason;
 pub use script::{Script, ScriptWorker};

@@ -8,6 +8,7 @@ use crate::script::Script;
 use crate::script_fault::ScriptFault;
 use crate::turn_watch::TurnWatch;
 use rb_io::write_whole;
+use rb_json::LineForm;
 use rb_loader::{ProgramFault, read_all};
 use std::alloc::Global;
 use std::io::{Read, Write};
@@ -29,21 +30,23 @@ pub enum SimFault {
 
 /// Reads a whole script, verifies its programs and runs its turns in a world. Prints a line for each take and each
 /// chapter, and at the end a line for each worker and each ring. With `draw`, also draws each ring on a line after each
-/// turn. Calls the watch after each turn.
+/// turn. Each line is in words or a JSON object, as `form` says. Calls the watch after each turn.
 ///
 /// If a line is at fault or a program is refused, returns its number and prints nothing, unless memory runs out or the
-/// device fails. If memory runs out, prints the lines of the turns made so far and nothing else.
+/// device fails. If memory runs out, prints the lines of the turns made so far, in the same form, and nothing else. The
+/// object of a record needs more memory than its line in words.
 pub fn sim<R: Read, W: Write, V: TurnWatch>(
     alloc: Global,
     input: &mut R,
     out: &mut W,
     draw: bool,
+    form: LineForm,
     watch: &V,
 ) -> Result<(), SimFault>
-    ensures printed { OnOk result (IfSome (R.remaining input.old) (λ text. PrintsSim draw text (W.contents out.old) (W.contents out.new))) }
+    ensures printed { OnOk result (IfSome (R.remaining input.old) (λ text. PrintsSim form draw text (W.contents out.old) (W.contents out.new))) }
     ensures refused { IfErr result (λ fault. IfSome (R.remaining input.old) (λ text. IsSimFaultOf text fault)) }
     ensures told { IfSome (R.remaining input.old) (λ text. (line : ℕ) → IsSimFaultOf text (SimFault.Line line) → IsTold line result) }
-    ensures broken_off { IfSome (R.remaining input.old) (λ text. result ≡ Err SimFault.Memory → BreaksOffSim draw text (W.contents out.old) (W.contents out.new)) }
+    ensures broken_off { IfSome (R.remaining input.old) (λ text. result ≡ Err SimFault.Memory → BreaksOffSim form draw text (W.contents out.old) (W.contents out.new)) }
     ensures unprinted { (line : ℕ) → result ≡ Err (SimFault.Line line) → Keeps (W.contents out.old) (W.contents out.new) }
 {
     let bytes = match read_all(alloc, input) {
@@ -51,7 +54,7 @@ pub fn sim<R: Read, W: Write, V: TurnWatch>(
         Err(ProgramFault::Memory) => return Err(SimFault::Memory),
         Err(_) => return Err(SimFault::Device),
     };
-    sim_text(alloc, bytes.as_slice(), out, draw, watch)
+    sim_text(alloc, bytes.as_slice(), out, draw, form, watch)
 }
 
 // Runs the script in `text`, as `sim` does.
@@ -60,12 +63,13 @@ fn sim_text<W: Write, V: TurnWatch>(
     text: &[u8],
     out: &mut W,
     draw: bool,
+    form: LineForm,
     watch: &V,
 ) -> Result<(), SimFault>
-    ensures printed { OnOk result (PrintsSim draw text.now (W.contents out.old) (W.contents out.new)) }
+    ensures printed { OnOk result (PrintsSim form draw text.now (W.contents out.old) (W.contents out.new)) }
     ensures refused { IfErr result (IsSimFaultOf text.now) }
     ensures told { (line : ℕ) → IsSimFaultOf text.now (SimFault.Line line) → IsTold line result }
-    ensures broken_off { result ≡ Err SimFault.Memory → BreaksOffSim draw text.now (W.contents out.old) (W.contents out.new) }
+    ensures broken_off { result ≡ Err SimFault.Memory → BreaksOffSim form draw text.now (W.contents out.old) (W.contents out.new) }
     ensures unprinted { (line : ℕ) → result ≡ Err (SimFault.Line line) → Keeps (W.contents out.old) (W.contents out.new) }
 {
     let script = match Script::read(alloc, text) {
@@ -74,7 +78,7 @@ fn sim_text<W: Write, V: TurnWatch>(
         Err(ScriptFault::Memory) => return Err(SimFault::Memory),
     };
     let mut turns = Vec::new(alloc);
-    let ends = match script.simulate(alloc, draw, &mut turns, watch) {
+    let ends = match script.simulate(alloc, draw, form, &mut turns, watch) {
         Ok(ends) => ends,
         Err(ScriptFault::Line(refused)) => return Err(SimFault::Line(refused)),
         Err(ScriptFault::Memory) => return Err(print_beginning(out, turns.as_slice())),

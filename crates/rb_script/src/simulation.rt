@@ -16,6 +16,7 @@ use crate::script::{Script, ScriptWorker};
 use crate::script_fault::ScriptFault;
 use crate::turn_watch::TurnWatch;
 use rb_history::{CONS_POS, PROD_POS, Taken};
+use rb_json::LineForm;
 use rb_verifier::Verified;
 use rb_world::{Actor, TurnDone, WorkerSetup, World, WorldOpenFault};
 use std::alloc::{AllocError, Global};
@@ -23,7 +24,7 @@ use std::alloc::{AllocError, Global};
 impl<'a> Script<'a> {
     /// Verifies the script's programs and runs its turns. Appends a line to the text for each take and each chapter
     /// and, with `draw`, the drawings of the rings after each turn. Returns the lines of the workers and rings at the
-    /// end. Calls the watch after each turn.
+    /// end. All lines have the requested form. Calls the watch after each turn.
     ///
     /// If a program is refused, returns its line; nothing is run or written. If memory runs out, the text ends with the
     /// whole lines of the turns made so far. Every script that was read can be run.
@@ -31,22 +32,23 @@ impl<'a> Script<'a> {
         &self,
         alloc: Global,
         draw: bool,
+        form: LineForm,
         text: &mut Vec<u8>,
         watch: &V,
     ) -> Result<Vec<u8>, ScriptFault>
         requires may_run { MayRunScript self.now }
-        ensures ran { IfOk result (λ ends. Simulates draw self.now text.old.items text.new.items ends.items) }
+        ensures ran { IfOk result (λ ends. Simulates form draw self.now text.old.items text.new.items ends.items) }
         ensures refused { IfErr result (IsProgramsFault (length self.now.rings.items) (map worker_text self.now.workers.items)) }
         ensures only_refused { (line : ℕ) → IsFirstRefused (length self.now.rings.items) (map worker_text self.now.workers.items) line
             → (result ≡ Err (ScriptFault.Line line)) ⊎ (result ≡ Err ScriptFault.Memory) }
         ensures unwritten { (line : ℕ) → result ≡ Err (ScriptFault.Line line) → text.new.items ≡ text.old.items }
-        ensures begun { OnErr result (BreaksOff draw self.now text.old.items text.new.items) }
+        ensures begun { OnErr result (BreaksOff form draw self.now text.old.items text.new.items) }
     {
         let programs = match programs_of(alloc, self.workers.as_slice(), self.rings.len()) {
             Ok(programs) => programs,
             Err(fault) => return Err(fault),
         };
-        match self.simulate_with(alloc, programs.as_slice(), draw, text, watch) {
+        match self.simulate_with(alloc, programs.as_slice(), draw, form, text, watch) {
             Ok(ends) => Ok(ends),
             Err(_) => Err(ScriptFault::Memory),
         }
@@ -58,21 +60,30 @@ impl<'a> Script<'a> {
         alloc: Global,
         programs: &[Verified],
         draw: bool,
+        form: LineForm,
         text: &mut Vec<u8>,
         watch: &V,
     ) -> Result<Vec<u8>, AllocError>
         requires may_run { MayRunScript self.now }
         requires accepted { AllZip (IsWorkersProgram (length self.now.rings.items)) (map worker_text self.now.workers.items) programs.now }
-        ensures ran { IfOk result (λ ends. SimulatesWith draw self.now programs.now text.old.items text.new.items ends.items) }
-        ensures begun { OnErr result ((text.new.items ≡ text.old.items) ⊎ BeginsSimulationWith draw self.now programs.now text.old.items text.new.items) }
+        ensures ran { IfOk result (λ ends. SimulatesWith form draw self.now programs.now text.old.items text.new.items ends.items) }
+        ensures begun { OnErr result ((text.new.items ≡ text.old.items) ⊎ BeginsSimulationWith form draw self.now programs.now text.old.items text.new.items) }
     {
         let setups = setups_of(alloc, self.workers.as_slice(), programs)?;
         let mut world = match World::new(alloc, self.rings.as_slice(), setups.as_slice()) {
             Ok(world) => world,
             Err(fault) => return Err(want_of_memory(fault)),
         };
-        run(alloc, &mut world, self.actors.as_slice(), draw, text, watch)?;
-        ends_of(alloc, &world)
+        run(
+            alloc,
+            &mut world,
+            self.actors.as_slice(),
+            draw,
+            form,
+            text,
+            watch,
+        )?;
+        ends_of(alloc, &world, form)
     }
 }
 
@@ -112,13 +123,14 @@ fn run<V: TurnWatch>(
     world: &mut World<'_>,
     actors: &[Actor],
     draw: bool,
+    form: LineForm,
     text: &mut Vec<u8>,
     watch: &V,
 ) -> Result<(), AllocError>
     requires there { All (IsThere world.old) actors.now }
     requires few { length world.old.rings ≤ 16 }
-    ensures written { OnOk result (WritesRun draw actors.now world.old world.new text.old.items text.new.items) }
-    ensures begun { OnErr result (BeginsRun draw actors.now world.old text.old.items text.new.items) }
+    ensures written { OnOk result (WritesRun form draw actors.now world.old world.new text.old.items text.new.items) }
+    ensures begun { OnErr result (BeginsRun form draw actors.now world.old text.old.items text.new.items) }
     ensures workers { length world.new.machines ≡ length world.old.machines }
     ensures rings { length world.new.rings ≡ length world.old.rings }
 {
@@ -129,7 +141,7 @@ fn run<V: TurnWatch>(
             return Err(AllocError);
         }
         line.clear();
-        let Ok(()) = push_drawn_turn(world, *actor, done, draw, &mut line) else {
+        let Ok(()) = push_drawn_turn(alloc, world, *actor, done, draw, form, &mut line) else {
             return Err(AllocError);
         };
         let Ok(()) = text.extend_from_slice(line.as_slice()) else {
@@ -142,19 +154,21 @@ fn run<V: TurnWatch>(
 
 // Appends the line of a turn that was just made, if it has one, and the drawings of the rings if `draw` is set.
 fn push_drawn_turn(
+    alloc: Global,
     world: &World<'_>,
     actor: Actor,
     done: TurnDone,
     draw: bool,
+    form: LineForm,
     text: &mut Vec<u8>,
 ) -> Result<(), AllocError>
     requires there { IsThere world.now actor }
     requires few { length world.now.rings ≤ 16 }
-    ensures lines { OnOk result (text.new.items ≡ text.old.items ++ (shown_text actor done (world_of world.now) ++ drawings draw world.now)) }
+    ensures lines { OnOk result (text.new.items ≡ text.old.items ++ (shown_text form actor done (world_of world.now) ++ drawings form draw world.now)) }
 {
-    push_turn(world, actor, done, text)?;
+    push_turn(alloc, world, actor, done, form, text)?;
     if draw {
-        push_drawings(world, text)
+        push_drawings(world, form, text)
     } else {
         text.extend_from_slice(b"")
     }
@@ -162,139 +176,164 @@ fn push_drawn_turn(
 
 // Appends the line of a turn that was just made, if it has one.
 fn push_turn(
+    alloc: Global,
     world: &World<'_>,
     actor: Actor,
     done: TurnDone,
+    form: LineForm,
     text: &mut Vec<u8>,
 ) -> Result<(), AllocError>
     requires there { IsThere world.now actor }
-    ensures line { OnOk result (text.new.items ≡ text.old.items ++ shown_text actor done (world_of world.now)) }
+    ensures line { OnOk result (text.new.items ≡ text.old.items ++ shown_text form actor done (world_of world.now)) }
 {
     match actor {
         Actor::Worker(_) => Ok(()),
-        Actor::Consumer(r) => push_consumer(r, done, world.taken(r), text),
-        Actor::Keeper(r) => push_keeper(r, done, text),
+        Actor::Consumer(r) => push_consumer(alloc, r, done, world.taken(r), form, text),
+        Actor::Keeper(r) => push_keeper(r, done, form, text),
     }
 }
 
 // Appends the line of a consumer's turn, from what was taken up to then.
 fn push_consumer(
+    alloc: Global,
     r: u32,
     done: TurnDone,
     taken: &[Taken],
+    form: LineForm,
     text: &mut Vec<u8>,
 ) -> Result<(), AllocError>
-    ensures line { OnOk result (text.new.items ≡ text.old.items ++ consumer_text r done taken.now) }
+    ensures line { OnOk result (text.new.items ≡ text.old.items ++ consumer_text form r done taken.now) }
 {
     match done {
-        TurnDone::Took | TurnDone::Skipped => push_last(r, taken, text),
-        TurnDone::BusyFront => push_take(text, r, &Taken::BusyFront),
-        TurnDone::Empty => push_take(text, r, &Taken::Empty),
+        TurnDone::Took | TurnDone::Skipped => push_last(alloc, r, taken, form, text),
+        TurnDone::BusyFront => push_take(alloc, text, form, r, &Taken::BusyFront),
+        TurnDone::Empty => push_take(alloc, text, form, r, &Taken::Empty),
         _ => Ok(()),
     }
 }
 
 // Appends the line of the last record taken.
-fn push_last(r: u32, taken: &[Taken], text: &mut Vec<u8>) -> Result<(), AllocError>
-    ensures line { OnOk result (text.new.items ≡ text.old.items ++ last_line r taken.now) }
+fn push_last(
+    alloc: Global,
+    r: u32,
+    taken: &[Taken],
+    form: LineForm,
+    text: &mut Vec<u8>,
+) -> Result<(), AllocError>
+    ensures line { OnOk result (text.new.items ≡ text.old.items ++ last_line form r taken.now) }
 {
     match taken.last() {
-        Some(found) => push_take(text, r, found),
+        Some(found) => push_take(alloc, text, form, r, found),
         None => Ok(()),
     }
 }
 
 // Appends the line of a keeper's turn.
-fn push_keeper(r: u32, done: TurnDone, text: &mut Vec<u8>) -> Result<(), AllocError>
-    ensures line { OnOk result (text.new.items ≡ text.old.items ++ keeper_text r done) }
+fn push_keeper(r: u32, done: TurnDone, form: LineForm, text: &mut Vec<u8>) -> Result<(), AllocError>
+    ensures line { OnOk result (text.new.items ≡ text.old.items ++ keeper_text form r done) }
 {
     match done {
-        TurnDone::Chapter(number) => push_chapter(text, r, number),
+        TurnDone::Chapter(number) => push_chapter(text, form, r, number),
         _ => Ok(()),
     }
 }
 
 // Returns the lines of the workers and the rings.
-fn ends_of(alloc: Global, world: &World<'_>) -> Result<Vec<u8>, AllocError>
+fn ends_of(alloc: Global, world: &World<'_>, form: LineForm) -> Result<Vec<u8>, AllocError>
     requires workers { length world.now.machines ≤ 256 }
     requires rings { length world.now.rings ≤ 16 }
-    ensures lines { IfOk result (λ ends. ends.items ≡ world_text world.now) }
+    ensures lines { IfOk result (λ ends. ends.items ≡ world_text form world.now) }
 {
     let mut ends = Vec::new(alloc);
-    push_workers(world, &mut ends)?;
-    push_rings(world, &mut ends)?;
+    push_workers(world, form, &mut ends)?;
+    push_rings(world, form, &mut ends)?;
     Ok(ends)
 }
 
 // Appends the drawings of the rings.
-fn push_drawings(world: &World<'_>, text: &mut Vec<u8>) -> Result<(), AllocError>
+fn push_drawings(world: &World<'_>, form: LineForm, text: &mut Vec<u8>) -> Result<(), AllocError>
     requires few { length world.now.rings ≤ 16 }
-    ensures lines { OnOk result (text.new.items ≡ text.old.items ++ lines_below (drawing_of world.now) (length world.now.rings)) }
+    ensures lines { OnOk result (text.new.items ≡ text.old.items ++ lines_below (drawing_of form world.now) (length world.now.rings)) }
 {
     for r in 0..16 {
         if !world.has(Actor::Consumer(r)) {
             return Ok(());
         }
-        push_ring_drawing(world, r, text)?;
+        push_ring_drawing(world, r, form, text)?;
     }
     Ok(())
 }
 
 // Appends the drawing of a ring.
-fn push_ring_drawing(world: &World<'_>, r: u32, text: &mut Vec<u8>) -> Result<(), AllocError>
+fn push_ring_drawing(
+    world: &World<'_>,
+    r: u32,
+    form: LineForm,
+    text: &mut Vec<u8>,
+) -> Result<(), AllocError>
     requires there { IsThere world.now (Consumer r) }
-    ensures line { OnOk result (text.new.items ≡ text.old.items ++ drawing_of world.now r) }
+    ensures line { OnOk result (text.new.items ≡ text.old.items ++ drawing_of form world.now r) }
 {
     let closing = world.ring(r).chapter().closing();
-    push_drawing(text, r, closing)
+    push_drawing(text, form, r, closing)
 }
 
 // Appends the lines of the workers.
-fn push_workers(world: &World<'_>, text: &mut Vec<u8>) -> Result<(), AllocError>
+fn push_workers(world: &World<'_>, form: LineForm, text: &mut Vec<u8>) -> Result<(), AllocError>
     requires workers { length world.now.machines ≤ 256 }
-    ensures lines { OnOk result (text.new.items ≡ text.old.items ++ lines_below (worker_line world.now) (length world.now.machines)) }
+    ensures lines { OnOk result (text.new.items ≡ text.old.items ++ lines_below (worker_line form world.now) (length world.now.machines)) }
 {
     for w in 0..256 {
         if !world.has(Actor::Worker(w)) {
             return Ok(());
         }
-        push_worker(world, w, text)?;
+        push_worker(world, w, form, text)?;
     }
     Ok(())
 }
 
 // Appends the lines of the rings.
-fn push_rings(world: &World<'_>, text: &mut Vec<u8>) -> Result<(), AllocError>
+fn push_rings(world: &World<'_>, form: LineForm, text: &mut Vec<u8>) -> Result<(), AllocError>
     requires rings { length world.now.rings ≤ 16 }
-    ensures lines { OnOk result (text.new.items ≡ text.old.items ++ lines_below (ring_end_of world.now) (length world.now.rings)) }
+    ensures lines { OnOk result (text.new.items ≡ text.old.items ++ lines_below (ring_end_of form world.now) (length world.now.rings)) }
 {
     for r in 0..16 {
         if !world.has(Actor::Consumer(r)) {
             return Ok(());
         }
-        push_ring_end(world, r, text)?;
+        push_ring_end(world, r, form, text)?;
     }
     Ok(())
 }
 
 // Appends the line of a worker.
-fn push_worker(world: &World<'_>, w: u32, text: &mut Vec<u8>) -> Result<(), AllocError>
+fn push_worker(
+    world: &World<'_>,
+    w: u32,
+    form: LineForm,
+    text: &mut Vec<u8>,
+) -> Result<(), AllocError>
     requires there { IsThere world.now (Worker w) }
-    ensures line { OnOk result (text.new.items ≡ text.old.items ++ worker_line world.now w) }
+    ensures line { OnOk result (text.new.items ≡ text.old.items ++ worker_line form world.now w) }
 {
     match (world.result(w), world.at(w)) {
-        (Some(value), _) => push_done(text, w, value),
-        (None, Some(unit)) => push_at(text, w, unit),
+        (Some(value), _) => push_done(text, form, w, value),
+        (None, Some(unit)) => push_at(text, form, w, unit),
         (None, None) => Ok(()),
     }
 }
 
 // Appends the line of a ring.
-fn push_ring_end(world: &World<'_>, r: u32, text: &mut Vec<u8>) -> Result<(), AllocError>
+fn push_ring_end(
+    world: &World<'_>,
+    r: u32,
+    form: LineForm,
+    text: &mut Vec<u8>,
+) -> Result<(), AllocError>
     requires there { IsThere world.now (Consumer r) }
-    ensures line { OnOk result (text.new.items ≡ text.old.items ++ ring_end_of world.now r) }
+    ensures line { OnOk result (text.new.items ≡ text.old.items ++ ring_end_of form world.now r) }
 {
     let ring = world.ring(r);
     let (producer, consumer) = (ring.query(PROD_POS), ring.query(CONS_POS));
-    push_ring(text, r, producer, consumer, ring.counts())
+    push_ring(text, form, r, producer, consumer, ring.counts())
 }

@@ -1,6 +1,11 @@
+pub mod Accepted
 pub mod Dealt
+pub mod KnownInput
+pub mod Mapped
 pub mod Opening
 pub mod Plans
+pub mod Positions
 pub mod Printing
 pub mod Refusing
 pub mod Served
+pub mod StreamReports

@@ -1,5 +1,6 @@
 -- Texts to which lines of counters are appended.
-use Rattle.std.proofs.Common.{◌≡◌, ℕ, zero, suc, ◌+◌, ◌-◌, ◌<◌, ◌^◌, ◌++◌, List, [], ◌∷◌, Result, Ok, Err, add-one, drop, drop-cons, get_or, length, refl, sym, ap, subst, ◌∙◌, append_assoc, arith}
+use Rattle.std.proofs.Common.{◌≡◌, ℕ, zero, suc, ◌+◌, ◌<◌, ◌++◌, Bor, List, [], ◌∷◌, Result, Ok, Err, add-one, drop, drop-cons, get_or, length, map, refl, sym, ap, subst, ◌∙◌, append_assoc, arith}
+use Rattle.std.proofs.lemmas.List.{length-map}
 use Rattle.std.proofs.Math.Dec.{eqb-suc-zero}
 use Rattle.std.specs.Prelude.{OnOk, codes, if◌then◌else◌, is_ok}
 use Rattle.std.specs.Fmt.{decimal}
@@ -11,7 +12,9 @@ use Rattle.rb_stream.specs.declared.report.StreamReport.{StreamReport}
 use Rattle.rb_stream_worker.specs.declared.result_counts.ResultCounts.{ResultCounts}
 use Rattle.rb_workers.specs.declared.opened.Ended.{Ended}
 use Rattle.rb_run_commands.specs.ReportLines.{records_line}
-use Rattle.rb_service.specs.Counters.{AppendsCounters, contexts_line, contexts_read, counters, other_line, program_lines, programs_lines_from, requests_part, result_line, result_lines_from, ring_line, rings_lines}
+use Rattle.rb_service.specs.PrintedStream.{names_of_rings}
+use Rattle.rb_service.specs.declared.options.StreamOptions.{StreamOptions}
+use Rattle.rb_service.specs.Counters.{contexts_line, counters, other_line, program_lines, programs_lines_from, requests_part, result_line, result_lines_from, ring_line, rings_lines}
 
 -- the text of the line of the contexts, as it is composed
 contexts_pieces : (read run dropped skipped cut : List ℕ)
@@ -114,24 +117,18 @@ rings_more names rings i name ended lines new whole within below name_is is so_f
 
 -- ---- all counters
 
-four_parts : (contexts programs rings unlogged : List ℕ) → ((contexts ++ programs) ++ rings) ++ unlogged ≡ contexts ++ (programs ++ (rings ++ unlogged))
-four_parts contexts programs rings unlogged = simp append_assoc refl
+-- the counters were appended, with these names
+pub counters_appended : {S A B : Type 0} (answer : Result A B) (old new text : List ℕ) (report : StreamReport S) (counts : ContextCounts) (passed made : List (Bor (List ℕ))) (options : StreamOptions)
+    → new ≡ (if is_ok answer then old ++ text else old) → text ≡ counters report counts (map (λ n. n.now) passed) → passed ≡ made → map (λ n. n.now) made ≡ names_of_rings options
+    → OnOk answer (new ≡ old ++ counters report counts (names_of_rings options))
+counters_appended (Ok a) old new text report counts passed made options grown text_is same are = grown ∙ ap (λ l. old ++ l) (text_is ∙ ap (counters report counts) (ap (map (λ n. n.now)) same ∙ are))
+counters_appended (Err e) old new text report counts passed made options grown text_is same are = tt
 
--- if the report's contexts were run or dropped, those that are printed as read were run, dropped or skipped
-pub counters_appended : {S A B : Type 0} (answer : Result A B) (old new text : List ℕ) (report : StreamReport S) (counts : ContextCounts) (names : List (List ℕ))
-    → new ≡ (if is_ok answer then old ++ text else old) → text ≡ counters report counts names → (report.contexts < 2 ^ 64 - 1 → report.contexts ≡ report.ran + report.dropped) → OnOk answer (AppendsCounters old new)
-counters_appended (Ok a) old new text report counts names grown text_is add_up =
-    let programs = programs_lines_from 0 report.results.items in
-    let rings = rings_lines names report.rings.items in
-    let unlogged = line (codes "unlogged " ++ decimal report.unlogged) in
-    let first = contexts_line (contexts_read report.contexts counts) report.ran report.dropped counts in
-    record {
-      read = contexts_read report.contexts counts;
-      run = report.ran;
-      dropped = report.dropped;
-      counts = counts;
-      more = programs ++ (rings ++ unlogged);
-      text_is = grown ∙ ap (λ l. old ++ l) (text_is ∙ four_parts first programs rings unlogged);
-      adds_up = λ small. (let sum = add_up (omega arith) in omega (arith, sum));
-    }
-counters_appended (Err e) old new text report counts names grown text_is add_up = tt
+-- there is a name for each ring
+pub names_length : (passed made : List (Bor (List ℕ))) (options : StreamOptions) → passed ≡ made → map (λ n. n.now) made ≡ names_of_rings options → length passed ≡ length options.rings.items
+names_length passed made options same are = ap length same ∙ (sym (length-map made (λ n. n.now)) ∙ (ap length are ∙ length-map options.rings.items (λ r. r.name.now)))
+
+-- what was appended stays appended, also if the next call succeeds
+pub appended_on_ok : {A B : Type 0} (answer : Result A B) (old new more : List ℕ) → new ≡ old ++ more → OnOk answer (new ≡ old ++ more)
+appended_on_ok (Ok a) old new more grown = grown
+appended_on_ok (Err e) old new more grown = tt

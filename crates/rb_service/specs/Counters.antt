@@ -1,5 +1,5 @@
 -- What is printed for a stream's report, as bytes (own).
-use Rattle.std.specs.Prelude.{ℕ, ◌≡◌, ◌+◌, ◌-◌, ◌<◌, ◌^◌, ◌==◌, if◌then◌else◌, List, [], ◌∷◌, ◌++◌, codes}
+use Rattle.std.specs.Prelude.{ℕ, ◌+◌, ◌==◌, if◌then◌else◌, List, [], ◌∷◌, ◌++◌, codes}
 use Rattle.std.specs.Fmt.{decimal}
 use Rattle.rb_history.specs.declared.answers.Counts.{Counts}
 use Rattle.rb_chapter_ring.specs.OpenedRing.{told_counts}
@@ -63,14 +63,3 @@ abbrev pub counters : {S : Type 0} → StreamReport S → ContextCounts → List
 counters report contexts names =
     contexts_line (contexts_read report.contexts contexts) report.ran report.dropped contexts ++ programs_lines_from 0 report.results.items
     ++ rings_lines names report.rings.items ++ line (codes "unlogged " ++ decimal report.unlogged)
-
--- Counters were appended, and the contexts that were read are those that were run, dropped or skipped, as long as no
--- count is the greatest number.
-pub record AppendsCounters (old new : List ℕ) : Type 0 where
-  pub read : ℕ
-  pub run : ℕ
-  pub dropped : ℕ
-  pub counts : ContextCounts
-  pub more : List ℕ
-  pub text_is : new ≡ old ++ (contexts_line read run dropped counts ++ more)
-  pub adds_up : read < 2 ^ 64 - 1 → read ≡ run + dropped + counts.skipped

@@ -1,21 +1,21 @@
 //! The command `stream`.
 
-ghost use Rattle.std.specs.Prelude.{All, IfErr, OnOk};
+ghost use Rattle.std.specs.Prelude.{◌≡◌, All, IfErr, IfOk, OnOk, map};
 ghost use Rattle.rb_history.specs.RingModel.{IsStartPosition};
 ghost use Rattle.rb_service.specs.Command.{HasContexts, IsAllowed, IsLater, IsRightRefusal};
-ghost use Rattle.rb_service.specs.Counters.{AppendsCounters};
+ghost use Rattle.rb_service.specs.PrintedStream.{AreAcceptedFor, PrintsStream, PrintsStreamOver, sizes_of_rings};
 ghost use Rattle.rb_outputs.specs.Outputs.{output_position};
 
 use crate::folders::{check_rings, lock};
 use crate::metrics::StreamMetrics;
 use crate::options::StreamOptions;
 use crate::output_files::{MeasuredOutput, plan_rings};
+use crate::programs::read_programs;
 use crate::refusal::{StreamRefusal, check_options, refusal_of};
 use crate::report::report_on;
 use crate::rings::RingPlan;
 use crate::service::{ServiceRequest, serve};
 use crate::watched_source::WatchedSource;
-use rb_loader::{Bounds, read_program};
 use rb_source::FramedReader;
 use rb_verifier::Verified;
 use rb_workers::OpenGate;
@@ -26,32 +26,6 @@ use std::os::unix::fs::FileTypeExt;
 use std::rt::Files;
 use std::sync::Wait;
 use std::thread::Threads;
-
-// Reads and verifies the programs.
-fn read_programs<'a, T: Files<File = File>>(
-    rt: &T,
-    alloc: Global,
-    options: &StreamOptions<'a>,
-    bounds: Bounds,
-) -> Result<Vec<Verified>, StreamRefusal<'a>>
-    ensures later { IfErr result IsLater }
-{
-    let mut programs = Vec::new(alloc);
-    for at in 0..options.programs.len() {
-        let path = options.programs[at];
-        let Ok(mut file) = File::open(rt, path) else {
-            return Err(StreamRefusal::Open(path));
-        };
-        match read_program(alloc, &mut file, bounds) {
-            Ok(program) => {
-                programs.reserve(1)?;
-                programs.push_reserved(program);
-            }
-            Err(fault) => return Err(StreamRefusal::Program(path, fault)),
-        }
-    }
-    Ok(programs)
-}
 
 // Opens the file of the input. A FIFO is opened for reading and writing, because one that is open only for reading ends
 // when its last writer closes it.
@@ -78,9 +52,11 @@ fn stream_from<'a, T: Threads + Wait + Sync, I: Read + Send + Drop, W: Write + S
     printed: &mut Vec<u8>,
 ) -> Result<(), StreamRefusal<'a>>
     requires contexts { HasContexts options.now }
+    requires accepted { AreAcceptedFor options.now programs.now }
     requires begins { All (λ p. IsStartPosition (output_position p.sink.output)) plans.items }
+    requires sizes { map (λ p. p.size) plans.items ≡ sizes_of_rings options.now }
     ensures later { IfErr result IsLater }
-    ensures counted { OnOk result (AppendsCounters printed.old.items printed.new.items) }
+    ensures streamed { OnOk result (PrintsStreamOver options.now (I.remaining input) printed.old.items printed.new.items) }
 {
     let reader = FramedReader::new(alloc, input, options.framing, options.form)?;
     let mut source = WatchedSource::new(reader, metrics);
@@ -130,7 +106,7 @@ pub fn stream<'a, T: Threads + Wait + Sync + Files<File = File>, R: Read + Send,
 ) -> Result<(), StreamRefusal<'a>>
     ensures refused { IfErr result (IsRightRefusal options.now) }
     ensures allowed { OnOk result (IsAllowed options.now) }
-    ensures counted { OnOk result (AppendsCounters printed.old.items printed.new.items) }
+    ensures streamed { OnOk result (PrintsStream options.now (R.remaining input.old) printed.old.items printed.new.items) }
 {
     check_options(options)?;
     stream_allowed(rt, alloc, options, gate, metrics, input, out, printed)
@@ -171,11 +147,9 @@ fn stream_allowed<
 ) -> Result<(), StreamRefusal<'a>>
     requires allowed { IsAllowed options.now }
     ensures later { IfErr result IsLater }
-    ensures counted { OnOk result (AppendsCounters printed.old.items printed.new.items) }
+    ensures streamed { OnOk result (PrintsStream options.now (R.remaining input.old) printed.old.items printed.new.items) }
 {
-    let ctx_len = options.form.ctx_len();
-    let rings = options.rings.len().min(16) as u32;
-    let programs = read_programs(rt, alloc, options, Bounds { ctx_len, rings })?;
+    let programs = read_programs(rt, alloc, options)?;
     let lock = enter_folder(rt, alloc, options)?;
     let answer = stream_planned(
         rt,
@@ -210,8 +184,9 @@ fn stream_planned<
     printed: &mut Vec<u8>,
 ) -> Result<(), StreamRefusal<'a>>
     requires allowed { IsAllowed options.now }
+    requires accepted { AreAcceptedFor options.now programs.now }
     ensures later { IfErr result IsLater }
-    ensures counted { OnOk result (AppendsCounters printed.old.items printed.new.items) }
+    ensures streamed { OnOk result (PrintsStream options.now (R.remaining input.old) printed.old.items printed.new.items) }
 {
     let plans = plan_rings(metrics.host, alloc, options, out, gate, metrics)?;
     let Some(path) = options.from else {

@@ -14,6 +14,7 @@ mod metrics_text;
 mod opened_run;
 mod options;
 mod output_files;
+mod programs;
 mod refusal;
 mod report;
 mod rings;

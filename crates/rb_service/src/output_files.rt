@@ -1,8 +1,9 @@
 //! The outputs of a stream, opened.
 
-ghost use Rattle.std.specs.Prelude.{All, IfErr, IfOk};
+ghost use Rattle.std.specs.Prelude.{◌≡◌, All, IfErr, IfOk, map};
 ghost use Rattle.rb_history.specs.RingModel.{IsRingSize, IsStartPosition};
 ghost use Rattle.rb_service.specs.Command.{IsLater};
+ghost use Rattle.rb_service.specs.PrintedStream.{sizes_of_rings};
 ghost use Rattle.rb_outputs.specs.Outputs.{output_position, stream_position};
 
 use crate::folders::open_segments;
@@ -122,6 +123,7 @@ pub(crate) fn plan_rings<'a, T: Files<File = File>, W: Write + Drop>(
 ) -> Result<Vec<RingPlan<MeasuredOutput<'a, T, W>>>, StreamRefusal<'a>>
     requires sizes { All (λ r. IsRingSize r.size) options.now.rings.items }
     ensures begins { IfOk result (λ plans. All (λ p. IsStartPosition (output_position p.sink.output)) plans.items) }
+    ensures sizes { IfOk result (λ plans. map (λ p. p.size) plans.items ≡ sizes_of_rings options.now) }
     ensures later { IfErr result IsLater }
 {
     let mut plans = Vec::new(alloc);

@@ -1,8 +1,10 @@
 //! The end of a stream: its counters, and the outputs of its rings.
 
-ghost use Rattle.std.specs.Prelude.{◌≡◌, ◌+◌, ◌-◌, ◌<◌, ◌^◌, IfErr, IfOk, OnOk, length, vec_len};
+ghost use Rattle.std.specs.Prelude.{◌≡◌, ◌++◌, IfErr, IfOk, OnOk, length, map};
+ghost use Rattle.rb_stream.specs.declared.report.StreamEnd.TheVariants.{Over};
 ghost use Rattle.rb_service.specs.Command.{IsLater};
-ghost use Rattle.rb_service.specs.Counters.{AppendsCounters};
+ghost use Rattle.rb_service.specs.Counters.{counters};
+ghost use Rattle.rb_service.specs.PrintedStream.{names_of_rings};
 
 use crate::counters::counters_text;
 use crate::metrics::StreamMetrics;
@@ -18,22 +20,15 @@ use rb_workers::Ended;
 use std::alloc::{AllocError, Global};
 use std::io::Write;
 
-// Returns the names of the rings of a report.
-fn ring_names<'a>(
-    alloc: Global,
-    options: &StreamOptions<'a>,
-    count: usize,
-) -> Result<Vec<&'a str>, AllocError>
-    ensures len { IfOk result (λ names. vec_len names ≡ count) }
+// Returns the names of the rings.
+fn ring_names<'a>(alloc: Global, options: &StreamOptions<'a>) -> Result<Vec<&'a str>, AllocError>
+    ensures names { IfOk result (λ names. map (λ n. n.now) names.items ≡ names_of_rings options.now) }
 {
     let mut names = Vec::new(alloc);
-    for at in 0..count {
-        let name = match options.rings.get(at) {
-            Some(ring) => ring.name,
-            None => "",
-        };
+    for at in 0..options.rings.len() {
+        let ring = options.rings[at];
         names.reserve(1)?;
-        names.push_reserved(name);
+        names.push_reserved(ring.name);
     }
     Ok(names)
 }
@@ -93,16 +88,16 @@ fn ring_requests<S>(alloc: Global, rings: &[Ended<S>]) -> Result<Vec<Requests>, 
 // Appends the counters of this report to `printed`.
 fn print_counters<S>(
     alloc: Global,
+    options: &StreamOptions<'_>,
     report: &StreamReport<S>,
     contexts: ContextCounts,
-    names: &[&str],
     printed: &mut Vec<u8>,
 ) -> Result<(), AllocError>
-    requires names { length names.now ≡ length report.now.rings.items }
-    requires adds_up { report.now.contexts < 2 ^ 64 - 1 → report.now.contexts ≡ report.now.ran + report.now.dropped }
-    ensures counted { OnOk result (AppendsCounters printed.old.items printed.new.items) }
+    requires rings { length report.now.rings.items ≡ length options.now.rings.items }
+    ensures counted { OnOk result (printed.new.items ≡ printed.old.items ++ counters report.now contexts (names_of_rings options.now)) }
 {
-    let text = counters_text(alloc, report, contexts, names)?;
+    let names = ring_names(alloc, options)?;
+    let text = counters_text(alloc, report, contexts, names.as_slice())?;
     printed.extend_from_slice(text.as_bytes())
 }
 
@@ -117,12 +112,12 @@ pub(crate) fn report_on<'a, W: Write + Drop>(
     metrics: &StreamMetrics<'a>,
     printed: &mut Vec<u8>,
 ) -> Result<(), StreamRefusal<'a>>
-    requires adds_up { report.contexts < 2 ^ 64 - 1 → report.contexts ≡ report.ran + report.dropped }
+    requires rings { length report.rings.items ≡ length options.now.rings.items }
     ensures later { IfErr result IsLater }
-    ensures counted { OnOk result (AppendsCounters printed.old.items printed.new.items) }
+    ensures counted { OnOk result (printed.new.items ≡ printed.old.items ++ counters report.entry contexts (names_of_rings options.now)) }
+    ensures over { OnOk result (report.entry.end ≡ Over) }
 {
-    let names = ring_names(alloc, options, report.rings.len())?;
-    print_counters(alloc, &report, contexts, names.as_slice(), printed)?;
+    print_counters(alloc, options, &report, contexts, printed)?;
     end_outputs(alloc, options, report, metrics)
 }
 
@@ -134,6 +129,7 @@ fn end_outputs<'a, W: Write + Drop>(
     metrics: &StreamMetrics<'a>,
 ) -> Result<(), StreamRefusal<'a>>
     ensures later { IfErr result IsLater }
+    ensures over { OnOk result (report.entry.end ≡ Over) }
 {
     let StreamReport {
         rings,

@@ -2,10 +2,10 @@
 
 ghost use Rattle.std.specs.Prelude.{◌≡◌, ℕ, All, length};
 
+use super::given::same;
 use rb_dealing::{DealEnd, Dealt, Lane, LaneFeed, Late, Work, add_lane, run_lanes};
 use rb_source::{ListSource, Piece};
 use std::alloc::Global;
-use std::fmt::Debug;
 use std::process::Abort;
 use std::sync::Wait;
 use std::sync::atomic::{AtomicU64, Ordering};
@@ -63,11 +63,6 @@ impl Adder {
         self.sum = self.sum.saturating_add(number);
         self.contexts = self.contexts.saturating_add(1);
     }
-}
-
-// Ends the test if the two differ, and prints both.
-fn same<T: PartialEq + Debug>(rt: &impl Abort, found: &T, wanted: &T) {
-    assert_eq!(rt; *found, *wanted);
 }
 
 // Returns contexts of four bytes, numbered from 1.

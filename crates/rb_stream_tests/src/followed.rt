@@ -1,5 +1,6 @@
 //! A ring's directory on the file system, written and followed. Records of 16 bytes take 24, so three of them close a segment of 64.
 
+use super::given::same;
 use rb_json::LineForm;
 use rb_segments::{
     DirectoryStore, SegmentFile, SegmentPlan, SegmentWriter, SegmentedRing, enter_ring, mark_end,
@@ -74,15 +75,16 @@ fn a_ring_is_followed_over_segments_and_a_restart(rt: HostRuntime) -> Result<(),
         segment: 64,
         keep: u64::MAX,
     };
-    assert_eq!(rt; write(&rt, folder, plan, 0, 4)?, 96);
-    assert_eq!(rt; write(&rt, folder, plan, 4, 8)?, 192);
+    same(&rt, &write(&rt, folder, plan, 0, 4)?, &96);
+    same(&rt, &write(&rt, folder, plan, 4, 8)?, &192);
     let all = followed(&rt, folder, None)?;
     let lines = all.as_slice().split(|byte| *byte == b'\n').count();
-    assert_eq!(rt; lines, 9);
+    same(&rt, &lines, &9);
     let last = followed(&rt, folder, Some(168))?;
-    assert_eq!(rt;
-        last.as_slice(),
-        b"pos 168 len 16 07070707070707070707070707070707\n".as_slice()
+    same(
+        &rt,
+        &last.as_slice(),
+        &b"pos 168 len 16 07070707070707070707070707070707\n".as_slice(),
     );
     assert!(rt; all.as_slice().ends_with(last.as_slice()));
     assert!(rt;
@@ -108,7 +110,7 @@ fn deleted_segments_are_reported(rt: HostRuntime) -> Result<(), Fail> {
         segment: 64,
         keep: 100,
     };
-    assert_eq!(rt; write(&rt, folder, plan, 0, 8)?, 192);
+    same(&rt, &write(&rt, folder, plan, 0, 8)?, &192);
     assert!(rt;
         matches!(
             followed(&rt, folder, Some(72)),

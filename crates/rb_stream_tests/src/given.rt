@@ -41,6 +41,8 @@ pub(crate) fn verified(
 ) -> Verified
     requires context { ctx_len ≤ 65536 }
     requires rings { rings ≤ 16 }
+    ensures rings { result.rings ≡ rings }
+    ensures ctx_len { result.ctx_len ≡ ctx_len }
 {
     let program = from_text(alloc, text).expect(rt, "a program");
     let shape = shape(alloc, program).expect(rt, "a shape");

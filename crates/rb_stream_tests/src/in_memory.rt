@@ -1,5 +1,6 @@
 //! A tape in segments in memory, with sizes worked out by hand: records of 16 bytes take 24, so three of them close a segment of 64.
 
+use super::given::same;
 use rb_segments::{MemoryFile, MemoryStore, SegmentPlan, SegmentWriter};
 use rb_tape::{Event, Item, Tape};
 use std::alloc::Global;
@@ -66,9 +67,10 @@ fn joined(alloc: Global, store: &MemoryStore) -> Result<Vec<u8>, Fail> {
 fn segments_are_named_by_their_first_positions(rt: HostRuntime) -> Result<(), Fail> {
     let store = written(rt.alloc(), PLAN, 8)?;
     let shapes = shapes(rt.alloc(), &store)?;
-    assert_eq!(rt;
-        shapes.as_slice(),
-        [(0, 72), (72, 72), (144, 48)].as_slice()
+    same(
+        &rt,
+        &shapes.as_slice(),
+        &[(0, 72), (72, 72), (144, 48)].as_slice(),
     );
     let bytes = joined(rt.alloc(), &store)?;
     let (mut next, mut byte) = (0, 0u8);
@@ -79,7 +81,7 @@ fn segments_are_named_by_their_first_positions(rt: HostRuntime) -> Result<(), Fa
         next += 24;
         byte = byte.wrapping_add(1);
     }
-    assert_eq!(rt; next, 192);
+    same(&rt, &next, &192);
     Ok(())
 }
 
@@ -90,14 +92,16 @@ fn the_oldest_segments_are_deleted(rt: HostRuntime) -> Result<(), Fail> {
         keep: 100,
     };
     let store = written(rt.alloc(), plan, 7)?;
-    assert_eq!(rt;
-        shapes(rt.alloc(), &store)?.as_slice(),
-        [(72, 72), (144, 24)].as_slice()
+    same(
+        &rt,
+        &shapes(rt.alloc(), &store)?.as_slice(),
+        &[(72, 72), (144, 24)].as_slice(),
     );
     let store = written(rt.alloc(), plan, 8)?;
-    assert_eq!(rt;
-        shapes(rt.alloc(), &store)?.as_slice(),
-        [(144, 48)].as_slice()
+    same(
+        &rt,
+        &shapes(rt.alloc(), &store)?.as_slice(),
+        &[(144, 48)].as_slice(),
     );
     Ok(())
 }
@@ -112,13 +116,13 @@ fn a_restart_goes_on_after_the_last_whole_record(rt: HostRuntime) -> Result<(), 
         }
         let mut writer = restarted(alloc, store)?;
         let whole = cut / 24 * 24;
-        assert_eq!(rt; writer.position(), 144 + whole as u64);
+        same(&rt, &writer.position(), &(144 + whole as u64));
         put(&mut writer, 99);
         let store = writer.finish().0;
         let mut want = joined(alloc, &written(alloc, PLAN, 6 + (cut / 24) as u8)?)?;
         want.extend_from_slice(&[16, 0, 0, 0, 0, 0, 0, 0])?;
         want.extend_from_slice(&[99; 16])?;
-        assert_eq!(rt; joined(alloc, &store)?.as_slice(), want.as_slice());
+        same(&rt, &joined(alloc, &store)?.as_slice(), &want.as_slice());
     }
     Ok(())
 }

@@ -1,5 +1,6 @@
 //! An output of lines in memory: the lines are those that `tape --json` prints of the tape of the same records.
 
+use super::given::same;
 use rb_io::Buffered;
 use rb_json::LineForm;
 use rb_outputs::{LineSink, OutputEnd, RingOutput, StreamOutput};
@@ -65,13 +66,13 @@ fn lines_are_those_of_the_tape(rt: HostRuntime) -> Result<(), Fail> {
     let mut lines = Vec::new(alloc);
     let mut output = lines_on(alloc, &mut lines)?;
     give_all(&mut output);
-    assert_eq!(rt; output.finish(), OutputEnd::Whole);
-    assert_eq!(rt; lines.as_slice(), LINES);
+    same(&rt, &output.finish(), &OutputEnd::Whole);
+    same(&rt, &lines.as_slice(), &LINES);
     let mut tape = Vec::new(alloc);
     let sink = TapeSink::new(Buffered::new(alloc, &mut tape)?, 4096, 0, &OpenGate);
     let mut output: Output<'_, &mut Vec<u8>> = RingOutput::Stream(StreamOutput::Tape(sink));
     give_all(&mut output);
-    assert_eq!(rt; output.finish(), OutputEnd::Whole);
+    same(&rt, &output.finish(), &OutputEnd::Whole);
     let mut printed = Vec::new(alloc);
     tape_buffered(
         alloc,
@@ -81,7 +82,7 @@ fn lines_are_those_of_the_tape(rt: HostRuntime) -> Result<(), Fail> {
         0,
         LineForm::Json,
     )?;
-    assert_eq!(rt; printed.as_slice(), LINES);
+    same(&rt, &printed.as_slice(), &LINES);
     Ok(())
 }
 
@@ -90,7 +91,7 @@ fn lines_that_do_not_fit_are_reported(rt: HostRuntime) -> Result<(), Fail> {
     let mut room = [b'.'; 100];
     let mut output = lines_on(rt.alloc(), room.as_mut_slice())?;
     give_all(&mut output);
-    assert_eq!(rt; output.finish(), OutputEnd::Failed);
-    assert_eq!(rt; room.as_slice(), &LINES[..100]);
+    same(&rt, &output.finish(), &OutputEnd::Failed);
+    same(&rt, &room.as_slice(), &&LINES[..100]);
     Ok(())
 }

@@ -4,40 +4,25 @@ ghost use Rattle.std.specs.Prelude.{◌≡◌, ◌≤◌, length};
 ghost use Rattle.rb_jobs.specs.SeatHelpers.{IsAt};
 ghost use Rattle.rb_stream_worker.specs.ContextRuns.{IsNewWorker};
 
+use super::given::{self, FIRST_BYTE, OUTPUT_CONTEXT, same};
 use rb_dealing::Work;
 use rb_history::Taken;
 use rb_jobs::NoStock;
 use rb_lend::Lent;
-use rb_program::{from_text, shape};
 use rb_shared_ring::{ConsumerSeat, Seat, SharedRing, open};
 use rb_source::Piece;
 use rb_stream_worker::{CountOptions, LiveCounts, StreamCounts, StreamWorker, WhenFull};
-use rb_verifier::{Verified, verify};
+use rb_verifier::Verified;
 use std::alloc::Global;
-use std::fmt::Debug;
 use std::process::Abort;
 use std::sync::Wait;
-
-// Outputs the first eight bytes of the context to ring 0, and returns the output's answer.
-const OUTPUT_CONTEXT: &str = "bf12000000000000 1851000000000000 0000000000000000 b703000008000000
-    b704000000000000 8500000082000000 9500000000000000";
-
-// Returns the first byte of the context.
-const FIRST_BYTE: &str = "7110000000000000 9500000000000000";
-
-// Ends the test if the two differ, and prints both.
-fn same<T: PartialEq + Debug>(rt: &impl Abort, found: &T, wanted: &T) {
-    assert_eq!(rt; *found, *wanted);
-}
 
 // Returns a program that was verified for contexts of eight bytes and one ring.
 fn verified(rt: &impl Abort, alloc: Global, text: &str) -> Verified
     ensures rings { result.rings ≡ 1 }
     ensures ctx_len { result.ctx_len ≡ 8 }
 {
-    let program = from_text(alloc, text).expect(rt, "a program");
-    let shape = shape(alloc, program).expect(rt, "a shape");
-    verify(alloc, shape, 8, 1).expect(rt, "a verified program")
+    given::verified(rt, alloc, text, 8, 1)
 }
 
 // Returns a ring with one seat.
@@ -194,7 +179,7 @@ fn a_worker_publishes_its_counts_after_each_piece(rt: HostRuntime) {
         verified(&rt, alloc, OUTPUT_CONTEXT),
         verified(&rt, alloc, FIRST_BYTE),
     ];
-    let (ring, seat, _consumer) = opened(&rt, alloc);
+    let (ring, seat, _) = opened(&rt, alloc);
     let rings = [ring];
     let live = live_counts(&rt, alloc, 2, programs.len());
     let mut worker = new_worker(&rt, alloc, &rings, &programs, &WhenFull::Refuse, &live);

@@ -4,7 +4,7 @@ use Rattle.std.specs.List.{range_with_len}
 use Rattle.rb_verifier.specs.Subject.{Subject}
 use Rattle.rb_interp.specs.AnsweredCalls.{AnsweredCall}
 use Rattle.rb_ledger.specs.Seats.{WorkerSeat}
-use Rattle.rb_jobs.specs.declared.seat_record.SeatRecord.{SeatRecord}
+use Rattle.rb_chapter_ring.specs.declared.ring_record.RingRecord.{RingRecord}
 use Rattle.rb_jobs.specs.Jobs.{JobRan}
 
 -- a program, by its number in the list of programs, and the context over which it runs
@@ -26,7 +26,7 @@ pub record TaskRun : Type 0 where
   pub task : StreamTask
   pub result : ℕ
   pub unlogged : ℕ
-  pub calls : List (AnsweredCall SeatRecord)
+  pub calls : List (AnsweredCall RingRecord)
 
 -- The worker ran this program over this context. The run follows the semantics with the answers of its calls, it
 -- returned a number, and it led from the old state of the worker's seats to the new one.

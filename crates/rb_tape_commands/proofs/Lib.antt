@@ -1,4 +1,5 @@
 mod Answering
+mod Buffering
 mod ChapterPass
 mod Digits
 mod Feeding
@@ -9,4 +10,3 @@ mod RingPass
 mod Sending
 pub mod TapeReads
 mod TapeCallRuns
-mod Unread

@@ -4,10 +4,10 @@ use Rattle.std.proofs.lemmas.List.{take-append-le, drop-append-le, length-append
 use Rattle.std.proofs.lemmas.Grind.{flat_map-append}
 use Rattle.std.specs.Prelude.{Option, Bool, false, is_err, OnOk}
 use Rattle.std.specs.Io.KnownBytes.{Appends, Consumes, Keeps, IsAtEnd, append_known}
-use Rattle.std.proofs.KnownBytes.{Appends-nil, Appends-trans, Appends-kept, Consumes-kept, Consumes-nil, Consumes-trans, Keeps-refl, Keeps-trans}
+use Rattle.std.proofs.KnownBytes.{Appends-nil, Appends-trans, Appends-kept, Consumes-kept, Consumes-nil, Consumes-trans, Consumes-whole, Keeps-refl, Keeps-trans}
 use Rattle.rb_history.specs.declared.headers.Header.{Header}
 use Rattle.rb_history.specs.Header.{header_bytes}
-use Rattle.rb_history.specs.TapeBytes.{Item, item_bytes, end_of, padding}
+use Rattle.rb_history.specs.TapeBytes.{Item, item_bytes, end_of, padding, tape}
 use Rattle.rb_history.proofs.HeaderLaws.{length-item_bytes}
 use Rattle.rb_history.specs.RingModel.{IsRingSize}
 use Rattle.rb_tape.specs.declared.fault.TapeKind.{TapeKind}
@@ -15,10 +15,10 @@ use Rattle.rb_tape.specs.declared.fault.TapeKind.TheVariants as kinds
 use Rattle.rb_tape.specs.declared.fault.TapeFault.{TapeFault}
 use Rattle.rb_tape.specs.TapeFront.{ShowsFault, IsUndecided, StartsWithItem, IsFirstTapeFault, HasWholeSpan}
 use Rattle.rb_tape.specs.TapeReading.{Reading, AddsPiece, reading_from}
-use Rattle.rb_tape.specs.LongestTape.{IsTapeAndRest, HasReadItems}
+use Rattle.rb_tape.specs.LongestTape.{HasReadItems}
 use Rattle.rb_tape.proofs.ItemsRead.{begins, fed, goes_on, is_longest}
-use Rattle.rb_tape_commands.specs.TapeText.{tape_line_as, tape_lines, PrintsTape, PrintsFirst, PrintsSome, IsTape, TapeAnswer}
-use Rattle.rb_tape_commands.specs.inner.TapePrinting.{PrintsSoFar, EndsTape}
+use Rattle.rb_tape_commands.specs.TapeText.{tape_line_as, tape_lines, PrintsTape, PrintsFirst, PrintsSome, TapeAnswer}
+use Rattle.rb_tape_commands.specs.inner.TapePrinting.{PrintsSoFar, EndsTape, PrintsWhole}
 use Rattle.rb_tape_commands.specs.inner.LineGathering.{PassesItems, ReadsLines, GathersLines}
 use Rattle.rb_tape_commands.specs.declared.tape_refusal.TapeRefusal.{TapeRefusal}
 use Rattle.rb_tape_commands.specs.declared.tape_refusal.TapeRefusal.TheVariants.{Size, Start, Record, Memory, Device}
@@ -332,8 +332,18 @@ module _ (form : LineForm) where
   pub opened_answer : (size start : ℕ) (r : Reading) (u h g : Option (List ℕ)) (result : Result (Unit {0}) TapeRefusal) → r ≡ reading_from size start [] → IfSome u (λ input. TapeAnswer form r.size r.start input h g result) → IfSome u (λ input. TapeAnswer form size start input h g result)
   opened_answer size start r u h g result opened a = subst (λ (q : Reading). IfSome u (λ input. TapeAnswer form q.size q.start input h g result)) opened a
 
-  -- if the result is Ok, the input is a tape
-  pub whole_tape : (size start : ℕ) (u h g : Option (List ℕ)) (result : Result (Unit {0}) TapeRefusal) → IfSome u (λ input. TapeAnswer form size start input h g result) → OnOk result (IfSome u (IsTape size start))
-  whole_tape size start None h g (Ok _) a = tt
-  whole_tape size start (Some input) h g (Ok _) a = (a.items, subst (IsTapeAndRest size start input a.items) a.whole a.splits)
-  whole_tape size start u h g (Err e) a = tt
+  -- ---- with Ok, also if the input is unknown
+
+  -- the input ended after whole records
+  pub whole_end : (size start : ℕ) (u v h g : Option (List ℕ)) (r : Reading) (result : Result (Unit {0}) TapeRefusal) → PrintsSoFar form size start u v h g r → IsAtEnd v → EndsTape r result → OnOk result (PrintsWhole form size start u h g)
+  whole_end size start u v h g r (Ok _) s at_end ends =
+      let bytes_are : s.bytes ≡ tape size s.items = s.items_read.splits.text ∙ ap (λ rest. tape size s.items ++ rest) ends ∙ append-nil (tape size s.items) in
+      (s.items, s.items_read.splits.stand, Consumes-whole u v s.bytes (λ bytes. bytes ≡ tape size s.items) s.read at_end bytes_are, s.printed)
+  whole_end size start u v h g r (Err e) s at_end ends = tt
+
+  pub handed_on_whole : (size start : ℕ) (u h g f : Option (List ℕ)) (result : Result (Unit {0}) TapeRefusal) → Keeps g f → OnOk result (PrintsWhole form size start u h g) → OnOk result (PrintsWhole form size start u h f)
+  handed_on_whole size start u h g f (Ok _) kept p = (p.0, p.1, p.2, Appends-kept h g f _ p.3 kept)
+  handed_on_whole size start u h g f (Err e) kept p = tt
+
+  pub opened_whole : (size start : ℕ) (r : Reading) (u h g : Option (List ℕ)) (result : Result (Unit {0}) TapeRefusal) → r ≡ reading_from size start [] → OnOk result (PrintsWhole form r.size r.start u h g) → OnOk result (PrintsWhole form size start u h g)
+  opened_whole size start r u h g result opened p = subst (λ (q : Reading). OnOk result (PrintsWhole form q.size q.start u h g)) opened p

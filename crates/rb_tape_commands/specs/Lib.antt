@@ -1,5 +1,6 @@
 pub mod ChapterTurns
 pub mod Feed
+pub mod Follow
 pub mod Input
 pub mod PayloadReads
 pub mod Retries

@@ -56,10 +56,6 @@ pub record PrintsTape (form : LineForm) (size start : ℕ) (input : List ℕ) (f
   pub whole : IfNone fault (rest ≡ [])
   pub told : IfSome fault (λ f. IsToldAtEnd (reading_behind size start items rest) f.0 × (f.1 ≡ end_of start items - start))
 
--- the input is exactly the tape of some items
-abbrev pub IsTape : ℕ → ℕ → List ℕ → Type 0
-IsTape size start input = (items : List Item) × IsTapeAndRest size start input items []
-
 -- a prefix of the lines of some first records of the input was printed
 pub record PrintsSome (form : LineForm) (size start : ℕ) (input : List ℕ) (before after : Option (List ℕ)) : Type 0 where
   pub items : List Item

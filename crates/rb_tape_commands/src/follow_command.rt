@@ -1,5 +1,8 @@
 //! The command `follow`: prints the records of a ring's segments, also while a host writes them.
 
+ghost use Rattle.std.specs.Prelude.{◌≡◌, IfOk, IfSome, OnOk};
+ghost use Rattle.rb_tape_commands.specs.Follow.{FollowsRing};
+
 use crate::buffers::tape_buffered;
 use crate::next_segment::segments;
 use crate::segment_reader::SegmentReader;
@@ -42,6 +45,9 @@ impl From<Error> for FollowRefusal {
 
 /// Prints a line for each record of a ring's segments, as `tape` does, from the record at `from` on, or from the oldest
 /// one. At the end of the newest segment it waits for more. It returns once the host has ended the tape in order.
+///
+/// The contract says of which records the lines are: of some that stand one after the other in a ring, from `from` on. No
+/// contract knows the bytes of a file, so it can't say that they are those of the segments.
 pub fn follow<R: Files + Clock, W: Write>(
     rt: &R,
     alloc: Global,
@@ -50,7 +56,9 @@ pub fn follow<R: Files + Clock, W: Write>(
     from: Option<u64>,
     out: &mut W,
     form: LineForm,
-) -> Result<(), FollowRefusal> {
+) -> Result<(), FollowRefusal>
+    ensures printed { OnOk result (FollowsRing form from (W.contents out.old) (W.contents out.new)) }
+{
     let numbers = match ring_numbers(rt, alloc, folder, ring) {
         Ok(Some(numbers)) => numbers,
         Ok(None) => return Err(FollowRefusal::NoRing),
@@ -74,7 +82,9 @@ fn first_place<R: Files>(
     ring: &str,
     start: u64,
     from: Option<u64>,
-) -> Result<(u64, u64), FollowRefusal> {
+) -> Result<(u64, u64), FollowRefusal>
+    ensures begins { IfOk result (λ places. IfSome from (λ position. places.1 ≡ position)) }
+{
     let list = segments(rt, alloc, folder, ring)?;
     let oldest = list.first().map_or(start, |segment| segment.position);
     let Some(from) = from else {

@@ -3,7 +3,8 @@
 //!
 //! For `rbhost`, and for embedding over other readers and writers. The contracts state what `feed` read and wrote, by
 //! its result, and that `tape` prints the lines of the longest list of records whose tape is a prefix of its input, and
-//! reports the first fault after them. No contract says what `follow` prints.
+//! reports the first fault after them. `follow` prints the lines of records that may have been taken from a ring one after
+//! the other, from the requested one on; that they are the records of the segments is only tested.
 #![tactic(auto)]
 
 mod buffers;

@@ -1,11 +1,12 @@
 //! The command `tape`: reads a tape and prints a line for each of its records.
 
-ghost use Rattle.std.specs.Prelude.{◌≡◌, ◌≢◌, ◌↔◌, [], None, Err, IfSome, IsErrOf, OnOk};
-ghost use Rattle.std.specs.Io.KnownBytes.{IsAtEnd, Keeps};
+ghost use Rattle.std.specs.Prelude.{◌≡◌, ◌≢◌, ◌↔◌, [], None, Err, IfSome, IsErrOf, List, OnOk};
+ghost use Rattle.std.specs.Io.KnownBytes.{Appends, IsAtEnd, Keeps};
 ghost use Rattle.rb_history.specs.RingModel.{IsRingSize, IsStartPosition};
+ghost use Rattle.rb_history.specs.TapeBytes.{AreItemsFrom, Item, tape};
 ghost use Rattle.rb_tape.specs.TapeReading.{reading_from};
-ghost use Rattle.rb_tape_commands.specs.inner.TapePrinting.{EndsTape};
-ghost use Rattle.rb_tape_commands.specs.TapeText.{TapeAnswer};
+ghost use Rattle.rb_tape_commands.specs.inner.TapePrinting.{EndsTape, PrintsWhole};
+ghost use Rattle.rb_tape_commands.specs.TapeText.{TapeAnswer, tape_lines};
 
 use crate::lines::Lines;
 use crate::tape_lines::gather_lines;
@@ -36,7 +37,9 @@ pub fn tape<R: Incoming, W: Outgoing>(
     start: u64,
     form: LineForm,
 ) -> Result<(), TapeRefusal>
-    ensures answer { IfSome (R.remaining input.old) (λ tape. TapeAnswer form size start tape (W.contents out.old) (W.contents out.new) result) }
+    ensures answer { IfSome (R.remaining input.old) (λ bytes. TapeAnswer form size start bytes (W.contents out.old) (W.contents out.new) result) }
+    // Also if the bytes of the input are unknown: with Ok, exactly the lines of the records of a whole tape were printed.
+    ensures printed { OnOk result ((items : List Item) × AreItemsFrom size start items × IfSome (R.remaining input.old) (λ bytes. bytes ≡ tape size items) × Appends (W.contents out.old) (W.contents out.new) (tape_lines form items)) }
     ensures handed_on { W.waiting out.old ≡ [] → result ≢ Err TapeRefusal.Device → W.waiting out.new ≡ [] }
     ensures size { IsErrOf result TapeRefusal.Size ↔ ¬ IsRingSize size }
     ensures start { IsErrOf result TapeRefusal.Start ↔ (IsRingSize size × ¬ IsStartPosition start) }
@@ -67,7 +70,8 @@ fn print_pieces<R: Incoming, W: Outgoing>(
 ) -> Result<(), TapeRefusal>
     requires size { IsRingSize feed.old.size }
     requires fresh { feed.old ≡ reading_from feed.old.size feed.old.start [] }
-    ensures answer { IfSome (R.remaining input.old) (λ tape. TapeAnswer form feed.old.size feed.old.start tape (W.contents out.old) (W.contents out.new) result) }
+    ensures answer { IfSome (R.remaining input.old) (λ bytes. TapeAnswer form feed.old.size feed.old.start bytes (W.contents out.old) (W.contents out.new) result) }
+    ensures printed { OnOk result (PrintsWhole form feed.old.size feed.old.start (R.remaining input.old) (W.contents out.old) (W.contents out.new)) }
     ensures no_bounds { (result ≢ Err TapeRefusal.Size) × (result ≢ Err TapeRefusal.Start) }
 {
     'pieces: for _ in 0..u64::MAX {

@@ -7,6 +7,7 @@
 
 mod bench;
 mod fault;
+mod fields;
 mod numbers;
 mod orders;
 mod ring_lists;

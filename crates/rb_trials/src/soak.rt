@@ -71,16 +71,15 @@ fn sum_of(rounds: &[Result<SoakSums, TrialFault>]) -> Result<SoakSums, TrialFaul
 
 // Prints the counts, which depend on the schedule.
 fn tell<R: Eprint>(rt: &R, sums: &SoakSums) {
-    let SoakSums {
-        made,
-        refused,
-        submitted,
-        discarded,
-        chapters,
-        bound,
-        ..
-    } = *sums;
-    let _ = eprintln!(rt;
-        "made {made} refused {refused} submitted {submitted} discarded {discarded} chapters {chapters} bound {bound}"
-    );
+    for (word, number) in [
+        ("made ", sums.made),
+        (" refused ", sums.refused),
+        (" submitted ", sums.submitted),
+        (" discarded ", sums.discarded),
+        (" chapters ", sums.chapters),
+        (" bound ", sums.bound),
+    ] {
+        let _ = eprint!(rt; "{word}{number}");
+    }
+    let _ = eprintln!(rt; "");
 }

@@ -2,9 +2,10 @@
 use Rattle.std.specs.Prelude.{ℕ, ◌+◌, ◌-◌, ◌*◌, ◌/◌, ◌≤◌, min, max}
 use Rattle.rb_consumer.specs.BetweenLooks.{SufficesBetweenLooks}
 
--- the number of entries, with those that it owes, at which a chapter is handed out
-abbrev pub handed_out_at : ℕ
-handed_out_at = 32768
+-- the number of entries, with those that it owes, at which a chapter is handed out: few for a small ring, so that its
+-- chapters use little memory
+abbrev pub handed_out_at : ℕ → ℕ
+handed_out_at size = min 32768 (max 8192 (size / 8))
 
 -- the number of records after which the keeper looks: greater for a larger ring, because handing out a chapter takes
 -- longer if more records wait
@@ -15,10 +16,10 @@ look_after size = min 32768 (max 4096 (size / 128))
 -- keeper looks; 32,768 for other entries between two looks; and those that the chapter has when it is handed out. A
 -- chapter has room for at most 1,048,576 entries.
 abbrev pub room_of : ℕ → ℕ
-room_of size = min 1048576 (size / 8 * 3 + look_after size * 3 + 32768 + handed_out_at)
+room_of size = min 1048576 (size / 8 * 3 + look_after size * 3 + 32768 + handed_out_at size)
 
 abbrev pub margin_of : ℕ → ℕ
-margin_of size = room_of size - handed_out_at
+margin_of size = room_of size - handed_out_at size
 
 -- the maximal number of records that are taken between two looks: one less than those after which the keeper looks, and
 -- a batch of 512

@@ -5,7 +5,7 @@ use Rattle.rb_interp.specs.AnsweredCalls.{AnsweredCall}
 use Rattle.rb_interp.specs.declared.fault.RunFault.{RunFault}
 use Rattle.rb_interp.specs.declared.fault.RunFault.TheVariants.{ContextLength, Stray}
 use Rattle.rb_ledger.specs.Seats.{WorkerSeat}
-use Rattle.rb_jobs.specs.declared.seat_record.SeatRecord.{SeatRecord}
+use Rattle.rb_chapter_ring.specs.declared.ring_record.RingRecord.{RingRecord}
 use Rattle.rb_jobs.specs.declared.job.Job.{Job}
 use Rattle.rb_jobs.specs.declared.job.JobAnswer.{JobAnswer}
 use Rattle.rb_jobs.specs.Jobs.{JobRan, task_of}
@@ -14,7 +14,7 @@ use Rattle.rb_jobs.specs.Jobs.{JobRan, task_of}
 pub record JobRun : Type 0 where
   pub job : Job
   pub answer : JobAnswer
-  pub calls : List (AnsweredCall SeatRecord)
+  pub calls : List (AnsweredCall RingRecord)
 
 -- the job was run, had this result and made these calls, which led from the old state of its worker's seats to the new
 -- one

@@ -11,19 +11,19 @@ use Rattle.rb_interp.specs.StoredMemory.{held_record, others}
 use Rattle.rb_world.specs.Worlds.{WorldRing, table_with}
 use Rattle.rb_world.specs.CallsInWorld.{RingSteps, RecordOutcome, BadFlags, NoRoom, Made, WorkerReserves, WorkerOutputs, Unlogged}
 use Rattle.rb_world.proofs.Tables.{eq_cases, placed-here, placed-else}
-use Rattle.rb_world.specs.declared.world_record.WorldRecord.{WorldRecord}
+use Rattle.rb_chapter_ring.specs.declared.ring_record.RingRecord.{RingRecord}
 use Rattle.rb_world.specs.inner.HeldInHands.{Mark, mark_of, AllHeld, WasHeld}
 use Rattle.rb_world.specs.inner.RingAnswers.{untaken_ring}
 
 abbrev Held : Type 0
-Held = List (ℕ × WorldRecord)
+Held = List (ℕ × RingRecord)
 
-module _ {X : Type 0} (f : WorldRecord → X) where
+module _ {X : Type 0} (f : RingRecord → X) where
   abbrev pub shown : Held → ℕ → Option X
   shown rs id = option_map f (held_record id rs)
 
   -- a record that was granted is held under a new id
-  pub shown-granted : (u : ℕ) (owned : WorldRecord) (rs : Held) (id : ℕ) → held_record u rs ≡ None → shown (rs ++ (u, owned) ∷ []) id ≡ table_with u (Some (f owned)) (shown rs) id
+  pub shown-granted : (u : ℕ) (owned : RingRecord) (rs : Held) (id : ℕ) → held_record u rs ≡ None → shown (rs ++ (u, owned) ∷ []) id ≡ table_with u (Some (f owned)) (shown rs) id
   shown-granted u owned [] id none = elim (cases_eq id u) [ inl e ↦ rw (eq-eqb id u e, eq-eqb u id (sym e)) refl | inr ne ↦ rw (ne_eqb id u ne, ne_eqb u id (λ e. ne (sym e))) refl ]
   shown-granted u owned (r ∷ rs) id none = elim (cases_eq r.0 u) [
     | inl same ↦ absurd (let found : Some r.1 ≡ None = rw (eq-eqb r.0 u same) at none in cc)
@@ -80,14 +80,14 @@ module _ (P : Mark → Type 0) where
   marked : (rs : Held) → AllHeld P rs → Marked rs
   marked rs all id q e = by_case (held_record id rs) (all id) q e
     where
-      by_case : (o : Option WorldRecord) → ((x : WorldRecord) → o ≡ Some x → P (mark_of x)) → (q : Mark) → option_map mark_of o ≡ Some q → P q
+      by_case : (o : Option RingRecord) → ((x : RingRecord) → o ≡ Some x → P (mark_of x)) → (q : Mark) → option_map mark_of o ≡ Some q → P q
       by_case None each q e = absurd (cc)
       by_case (Some x) each q e = let same : mark_of x ≡ q = cc in subst P same (each x refl)
 
   unmarked : (rs : Held) → Marked rs → AllHeld P rs
   unmarked rs all id x e = all id (mark_of x) (ap (option_map mark_of) e)
 
-  pub all-granted : (u : ℕ) (owned : WorldRecord) (rs : Held) → held_record u rs ≡ None → P (mark_of owned) → AllHeld P rs → AllHeld P (rs ++ (u, owned) ∷ [])
+  pub all-granted : (u : ℕ) (owned : RingRecord) (rs : Held) → held_record u rs ≡ None → P (mark_of owned) → AllHeld P rs → AllHeld P (rs ++ (u, owned) ∷ [])
   all-granted u owned rs none new all = unmarked (rs ++ (u, owned) ∷ []) (λ id q e.
       let there : table_with u (Some (mark_of owned)) (shown mark_of rs) id ≡ Some q = sym (shown-granted mark_of u owned rs id none) ∙ e in
       elim (eq_cases id u) [
@@ -112,5 +112,5 @@ pub held-were : (rs : Held) → AllHeld (WasHeld rs) rs
 held-were rs id x e = (id, x, e, refl)
 
 -- writing into a record does not change its mark
-pub mark-stays : (x : WorldRecord) (w : List ℕ) → mark_of (record x { reservation = record x.reservation { granted = record x.reservation.granted { bytes = in_place_of x.reservation.granted.bytes w } } }) ≡ mark_of x
+pub mark-stays : (x : RingRecord) (w : List ℕ) → mark_of (record x { reservation = record x.reservation { granted = record x.reservation.granted { bytes = in_place_of x.reservation.granted.bytes w } } }) ≡ mark_of x
 mark-stays x w = ap (λ n. record { ring = x.ring; worker = x.reservation.granted.worker; hand = x.reservation.hand; out = out_record x.reservation.granted.pos x.reservation.granted.serial n }) (long-as x.reservation.granted.bytes w)

@@ -19,7 +19,7 @@ use Rattle.rb_chapter_ring.specs.declared.record_end.RecordEnd.{RecordEnd}
 use Rattle.rb_chapter_ring.specs.declared.record_end.RecordEnd.TheVariants.{Submit, Discard}
 use Rattle.rb_world.specs.declared.turn_done.TurnDone.{TurnDone}
 use Rattle.rb_world.specs.declared.turn_done.TurnDone.TheVariants as turn
-use Rattle.rb_world.specs.declared.world_record.WorldRecord.{WorldRecord}
+use Rattle.rb_chapter_ring.specs.declared.ring_record.RingRecord.{RingRecord}
 use Rattle.rb_world.specs.WorldValue.{KeptRing, WorldValue, no_kept_ring, ring_at, whole_world, world_ring}
 use Rattle.rb_world.specs.TurnsDone.{chapters_of}
 use Rattle.rb_world.specs.inner.FittingWorlds.{IsSoundWorld}
@@ -32,7 +32,7 @@ use Rattle.rb_world.proofs.WholeLists.{map-at, map-length, map-low, map-set, map
 use Rattle.rb_world.proofs.WholeTurns.{consumer-sound, keeper-sound, ring-shown}
 
 abbrev Held : Type 0
-Held = List (ℕ × WorldRecord)
+Held = List (ℕ × RingRecord)
 
 -- the end of a record frees its hand
 pub ended-frees : (earlier : List Entry) (old new : HandRing) (ending : RecordEnd) (hand : ℕ) (r : Granted) → IsKept earlier old.ring.chapter → HasHands old → EndsFromHand ending hand r old new → StaysOut new.hands old.hands
@@ -90,7 +90,7 @@ module _ (rings : List KeptRing) (r : ℕ) (s s' : KeptRing) (there : s ≡ get_
 
 module _ (old new : WorldValue) (sound : IsSoundWorld (whole_world new)) (long : length new.rings ≡ length old.rings) (each : KeepsEachInHand old.rings new.rings) where
   -- what was out in its hand before the turn, and is held after it, is still out in it
-  pub still-out : (w : ℕ) (m : MachineState WorldRecord) → w < length new.machines → m ≡ get_or new.machines w m → (id : ℕ) (x : WorldRecord) → held_record id m.records ≡ Some x → IsOutIn (books_of old.rings) (mark_of x) → IsOutIn (books_of new.rings) (mark_of x)
+  pub still-out : (w : ℕ) (m : MachineState RingRecord) → w < length new.machines → m ≡ get_or new.machines w m → (id : ℕ) (x : RingRecord) → held_record id m.records ≡ Some x → IsOutIn (books_of old.rings) (mark_of x) → IsOutIn (books_of new.rings) (mark_of x)
   still-out w m low is id x held out =
       let own = sound.fitting.own w m low is id x held in
       let r = x.ring in
@@ -104,14 +104,14 @@ module _ (old new : WorldValue) (sound : IsSoundWorld (whole_world new)) (long :
       ap (λ book. hand_at book g.worker x.reservation.hand) (book-at new.rings r there) ∙ each r there g.worker x.reservation.hand (mark_of x).out busy.0 before here
 
 -- a worker's turn
-pub worker-in-hand : (old : WorldValue) (rings : List KeptRing) (w : ℕ) (m m' : MachineState WorldRecord) → AllInHand old → w < length old.machines → m ≡ get_or old.machines w m → IsSoundWorld (whole_world (record { rings = rings; machines = set old.machines w m' })) → length rings ≡ length old.rings
+pub worker-in-hand : (old : WorldValue) (rings : List KeptRing) (w : ℕ) (m m' : MachineState RingRecord) → AllInHand old → w < length old.machines → m ≡ get_or old.machines w m → IsSoundWorld (whole_world (record { rings = rings; machines = set old.machines w m' })) → length rings ≡ length old.rings
     → KeepsEachInHand old.rings rings → HoldsEachOldOrOut (books_of rings) m.records m'.records → AllInHand (record { rings = rings; machines = set old.machines w m' })
 worker-in-hand old rings w m m' all low is sound long each holds j k below there id x held =
     let new : WorldValue = record { rings = rings; machines = set old.machines w m' } in
     elim (cases_eq j w) [
       | inl same ↦
           let here : k ≡ m' = there ∙ (ap (λ i. get_or (set old.machines w m') i k) same ∙ get_or-set_same old.machines w m' k low) in
-          let held_there : held_record id m'.records ≡ Some x = ap (λ (n : MachineState WorldRecord). held_record id n.records) (sym here) ∙ held in
+          let held_there : held_record id m'.records ≡ Some x = ap (λ (n : MachineState RingRecord). held_record id n.records) (sym here) ∙ held in
           elim (holds id x held_there) [
             | inl was ↦ still-out old new sound long each j k below there id x held (subst (IsOutIn (books_of old.rings)) was.3 (all w m low is was.0 was.1 was.2))
             | inr out ↦ out
@@ -137,7 +137,7 @@ tags-shown (s ∷ rings) = ap (λ l. s.ring.tag ∷ l) (tags-shown rings)
 pub tags-by-chapters : (one other : List KeptRing) → map chapters_of one ≡ map chapters_of other → map tag_shown one ≡ map tag_shown other
 tags-by-chapters one other same = tags-shown one ∙ (ap (map (λ (m : ℕ × List Chapter × Chapter). m.0)) same ∙ sym (tags-shown other))
 
-pub still-tagged : (old : WorldValue) (rings : List KeptRing) (machines : List (MachineState WorldRecord)) → AreTagged old → map tag_shown rings ≡ map tag_shown old.rings → AreTagged (record { rings = rings; machines = machines })
+pub still-tagged : (old : WorldValue) (rings : List KeptRing) (machines : List (MachineState RingRecord)) → AreTagged old → map tag_shown rings ≡ map tag_shown old.rings → AreTagged (record { rings = rings; machines = machines })
 still-tagged old rings machines tagged same r low =
     let long : length rings ≡ length old.rings = sym (map-length tag_shown rings) ∙ (ap length same ∙ map-length tag_shown old.rings) in
     let was : r < length old.rings = subst (λ n. r < n) long low in

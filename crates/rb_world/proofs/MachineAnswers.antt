@@ -21,7 +21,7 @@ use Rattle.rb_interp.proofs.Steady.{steady_ready, steady_waiting, place_for}
 use Rattle.rb_world.specs.Worlds.{RecordPlace, HeldRecords, Running, table_with, WorldRing}
 use Rattle.rb_world.specs.CallsInWorld.{RecordOutcome, BadFlags, NoRoom, Made, WorkerReserves, WorkerOutputs, answer_to_reserve, held_after_reserve, Unlogged}
 use Rattle.rb_world.specs.Turns.{worker_after}
-use Rattle.rb_world.specs.declared.world_record.WorldRecord.{WorldRecord}
+use Rattle.rb_chapter_ring.specs.declared.ring_record.RingRecord.{RingRecord}
 use Rattle.rb_world.specs.WorldValue.{WholeWorld, place_of, status_of_phase, held_by, worker_of}
 use Rattle.rb_world.specs.inner.WorkerTurn.{GoesOnWith, AnswersReserve, AnswersOutput}
 use Rattle.rb_world.specs.inner.FittingWorlds.{AreOwn, setups_of, AreFor, AreOpenTo, IsFitting}
@@ -29,10 +29,10 @@ use Rattle.rb_world.specs.inner.RingAnswers.{GivesRecord, IsReserved, IsOutput}
 use Rattle.rb_world.proofs.HeldByWorkers.{shown-granted, reserves-within, outputs-within}
 
 abbrev M : Type 0
-M = MachineState WorldRecord
+M = MachineState RingRecord
 
 abbrev Held : Type 0
-Held = List (ℕ × WorldRecord)
+Held = List (ℕ × RingRecord)
 
 pub held-same : (old new : M) → new.records ≡ old.records → held_by new ≡ held_by old
 held-same old new e = ap (λ (rs : Held). λ id. option_map place_of (held_record id rs)) e
@@ -59,7 +59,7 @@ module _ (w : ℕ) (s : WorldRing) (v v' : Ring) (items : List Taken) (is : reco
       )
 
   module _ (r len flags : ℕ) where
-    abbrev owned_of : HandGranted → WorldRecord
+    abbrev owned_of : HandGranted → RingRecord
     owned_of x = record { ring = r; reservation = x }
 
     pub reserve-granted : (x : HandGranted) → IsReserved v v' w len flags (Some x.granted) → held_record m.state.unit m.records ≡ None → IsResumedTo (resume (asked.Reserve len) GrantedAnswer m.state) m' → m'.records ≡ m.records ++ (m.state.unit, owned_of x) ∷ []
@@ -99,10 +99,10 @@ given-parts v v' w len flags x (NoRoom, g, h) = absurd g
 given-parts v v' w len flags x (Made p k, g, h) = (ap (λ (y : Granted). y.worker) g, ap (λ (y : Granted). y.bytes) g)
 
 -- the machine has a free place for it
-pub no-record : (m : M) (len : ℕ) (x : WorldRecord) → m.phase ≡ phase.Waiting (asked.Reserve len) → IsSteady m.phase m → m.state.memory.records ≡ record_bytes_in (λ (r : WorldRecord). r.reservation.granted.bytes) m.records → x.reservation.granted.bytes ≡ replicate len 0
+pub no-record : (m : M) (len : ℕ) (x : RingRecord) → m.phase ≡ phase.Waiting (asked.Reserve len) → IsSteady m.phase m → m.state.memory.records ≡ record_bytes_in (λ (r : RingRecord). r.reservation.granted.bytes) m.records → x.reservation.granted.bytes ≡ replicate len 0
     → held_record m.state.unit m.records ≡ None
 no-record m len x waits steady shows zeros =
-    (place_for (λ (r : WorldRecord). r.reservation.granted.bytes) m.program (asked.Reserve len) (given.Granted x) m.records m.state shows (steady_waiting m.phase (asked.Reserve len) m waits steady) zeros).1
+    (place_for (λ (r : RingRecord). r.reservation.granted.bytes) m.program (asked.Reserve len) (given.Granted x) m.records m.state shows (steady_waiting m.phase (asked.Reserve len) m waits steady) zeros).1
 
 -- ---- preserving `IsFitting`
 

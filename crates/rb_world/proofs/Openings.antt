@@ -9,7 +9,7 @@ use Rattle.rb_world.specs.OpeningWorld.{BeginsVerified, IsFreshRing, IsOpeningWo
 use Rattle.rb_world.proofs.WholeRuns.{opening-reached}
 use Rattle.rb_world.specs.declared.world_setup.RingSetup.{RingSetup}
 use Rattle.rb_world.specs.declared.world_setup.WorkerSetup.{WorkerSetup}
-use Rattle.rb_world.specs.declared.world_record.WorldRecord.{WorldRecord}
+use Rattle.rb_chapter_ring.specs.declared.ring_record.RingRecord.{RingRecord}
 use Rattle.rb_world.specs.WorldValue.{world_ring, WorldValue, whole_world, worker_of, no_worker, no_ring, no_kept_ring, world_of}
 use Rattle.rb_world.specs.OpenedWorlds.{HaveRings, opened_kept_ring, opened_rings, IsStarted, IsOpenedWorld}
 use Rattle.rb_world.specs.inner.FittingWorlds.{AreFor, setups_of, IsSoundWorld}
@@ -17,7 +17,7 @@ use Rattle.rb_world.specs.inner.HeldInHands.{Mark, AllHeld, IsHeldWorld, IsOutIn
 use Rattle.rb_world.proofs.ListSteps.{zip-long}
 use Rattle.rb_world.proofs.WholeLists.{map-length}
 
-begins-at : (xs : List WorkerSetup) (ms : List (MachineState WorldRecord)) (w : ℕ) → AllZip IsStarted xs ms → w < length ms → BeginsVerified (get_or (map worker_of ms) w no_worker)
+begins-at : (xs : List WorkerSetup) (ms : List (MachineState RingRecord)) (w : ℕ) → AllZip IsStarted xs ms → w < length ms → BeginsVerified (get_or (map worker_of ms) w no_worker)
 begins-at [] [] w h low = absurd (omega arith)
 begins-at [] (m ∷ ms) w h low = absurd h
 begins-at (x ∷ xs) [] w h low = absurd h
@@ -50,19 +50,19 @@ tagged-at n k (s ∷ rings) ℕ.zero low = omega arith
 tagged-at n k (s ∷ rings) (ℕ.suc r) low = tagged-at n (k + 1) rings r (omega arith) ∙ omega arith
 
 -- the state of a machine that was just started, at any index
-started-at : (xs : List WorkerSetup) (ms : List (MachineState WorldRecord)) (n w : ℕ) (m : MachineState WorldRecord) → AllZip IsStarted xs ms → All (λ x. x.program.now.rings ≤ n) xs → w < length ms → m ≡ get_or ms w m → (m.program.rings ≤ n) × (m.records ≡ [])
+started-at : (xs : List WorkerSetup) (ms : List (MachineState RingRecord)) (n w : ℕ) (m : MachineState RingRecord) → AllZip IsStarted xs ms → All (λ x. x.program.now.rings ≤ n) xs → w < length ms → m ≡ get_or ms w m → (m.program.rings ≤ n) × (m.records ≡ [])
 started-at [] [] n w m h all low is = absurd (omega arith)
 started-at [] (y ∷ ms) n w m h all low is = absurd h
 started-at (x ∷ xs) [] n w m h all low is = absurd h
 started-at (x ∷ xs) (y ∷ ms) n ℕ.zero m h all low is =
-    subst (λ (z : MachineState WorldRecord). (z.program.rings ≤ n) × (z.records ≡ [])) (sym is)
+    subst (λ (z : MachineState RingRecord). (z.program.rings ≤ n) × (z.records ≡ [])) (sym is)
     (subst (λ p. p.rings ≤ n) (sym h.0.program) (All-head (λ (z : WorkerSetup). z.program.now.rings ≤ n) x xs all), h.0.records)
 started-at (x ∷ xs) (y ∷ ms) n (ℕ.suc w) m h all low is = started-at xs ms n w m h.1 (All-tail (λ (z : WorkerSetup). z.program.now.rings ≤ n) x xs all) (omega arith) is
 
-none-held : (P : Mark → Type 0) (records : List (ℕ × WorldRecord)) → records ≡ [] → AllHeld P records
+none-held : (P : Mark → Type 0) (records : List (ℕ × RingRecord)) → records ≡ [] → AllHeld P records
 none-held P records e = λ id x held. absurd (none id x (subst (λ rs. held_record id rs ≡ Some x) e held))
   where
-    none : (id : ℕ) (x : WorldRecord) → None ≡ Some x → ⊥
+    none : (id : ℕ) (x : RingRecord) → None ≡ Some x → ⊥
     none id x e = cc
 
 module _ (rings : List RingSetup) (workers : List WorkerSetup) (v : WorldValue) (o : IsOpenedWorld rings workers v) where

@@ -9,7 +9,7 @@ use Rattle.rb_world.specs.Worlds.{WorkerState}
 use Rattle.rb_world.specs.OpeningWorld.{IsActor}
 use Rattle.rb_world.specs.EveryInterleaving.{HoldsRecord, IsBusyAsHeld, IsWellRun}
 use Rattle.rb_world.proofs.WholeRuns.{leads-on, reached-well}
-use Rattle.rb_world.specs.declared.world_record.WorldRecord.{WorldRecord}
+use Rattle.rb_chapter_ring.specs.declared.ring_record.RingRecord.{RingRecord}
 use Rattle.rb_world.specs.declared.turn_done.TurnDone.{TurnDone}
 use Rattle.rb_world.specs.WorldValue.{WholeWorld, place_of, worker_of, shown_world}
 use Rattle.rb_world.specs.TurnsDone.{IsWholeTurn}
@@ -17,7 +17,7 @@ use Rattle.rb_world.specs.inner.FittingWorlds.{IsFitting, IsSoundWorld}
 use Rattle.rb_world.proofs.WorkerTurns.{get-map}
 
 -- a record that a worker holds is busy at its ring
-pub busy-held : (v : WholeWorld) (w : ℕ) (m : MachineState WorldRecord) → IsSoundWorld v → w < length v.machines → m ≡ get_or v.machines w m → (id : ℕ) (x : WorldRecord) → held_record id m.records ≡ Some x
+pub busy-held : (v : WholeWorld) (w : ℕ) (m : MachineState RingRecord) → IsSoundWorld v → w < length v.machines → m ≡ get_or v.machines w m → (id : ℕ) (x : RingRecord) → held_record id m.records ≡ Some x
     → (n : ℕ) × IsBusy ((shown_world v).rings x.ring).ring.history x.reservation.granted.pos w x.reservation.granted.serial n
 busy-held v w m sound inside is id x held =
     let now : (shown_world v).workers w ≡ worker_of m = get-map v.machines w m inside is in

@@ -15,7 +15,7 @@ use Rattle.rb_world.specs.Worlds.{RecordPlace, HeldRecords, Running, Finished, W
 use Rattle.rb_world.specs.CallsInWorld.{RecordOutcome, BadFlags, NoRoom, Made, WorkerReserves, WorkerOutputs, answer_to_reserve, held_after_reserve, answer_to_output, Unlogged, granted_at}
 use Rattle.rb_world.specs.Turns.{TurnEvent, Went, Ended, Idle, GivingBack, output_event, worker_after, event_of, GetsAnswer, GivesRecordBack, MakesCall, ExecutesStep, TakesWorkerTurn, WorldStep}
 use Rattle.rb_world.specs.declared.actor.Actor.TheVariants.{Worker}
-use Rattle.rb_world.specs.declared.world_record.WorldRecord.{WorldRecord}
+use Rattle.rb_chapter_ring.specs.declared.ring_record.RingRecord.{RingRecord}
 use Rattle.rb_world.specs.declared.turn_done.TurnDone.TheVariants as turn
 use Rattle.rb_world.specs.WorldValue.{WholeWorld, place_of, status_of_phase, held_by, worker_of, no_worker, no_ring, shown_world}
 use Rattle.rb_world.specs.TurnsDone.{TellsEvent}
@@ -24,10 +24,10 @@ use Rattle.rb_world.proofs.ShownWorlds.{shown-book, set-get, at-default}
 use Rattle.rb_world.proofs.HeldByWorkers.{shown-given}
 
 abbrev Held : Type 0
-Held = List (ℕ × WorldRecord)
+Held = List (ℕ × RingRecord)
 
 -- changing the bytes of a machine's records leaves what they show
-pub same-shown : {X : Type 0} (f : WorldRecord → X) (with_bytes : WorldRecord → List ℕ → WorldRecord) → ((r : WorldRecord) (w : List ℕ) → f (with_bytes r w) ≡ f r) → (rs ss : Held) → Rewrites with_bytes rs ss → (id : ℕ) → option_map f (held_record id ss) ≡ option_map f (held_record id rs)
+pub same-shown : {X : Type 0} (f : RingRecord → X) (with_bytes : RingRecord → List ℕ → RingRecord) → ((r : RingRecord) (w : List ℕ) → f (with_bytes r w) ≡ f r) → (rs ss : Held) → Rewrites with_bytes rs ss → (id : ℕ) → option_map f (held_record id ss) ≡ option_map f (held_record id rs)
 same-shown f with_bytes keeps [] [] h id = refl
 same-shown f with_bytes keeps [] (s ∷ ss) h id = absurd h
 same-shown f with_bytes keeps (r ∷ rs) [] h id = absurd h
@@ -39,26 +39,26 @@ same-shown f with_bytes keeps (r ∷ rs) (s ∷ ss) h id = elim (cases_eq r.0 id
     one : f s.1 ≡ f r.1
     one = elim (h.1) [ inl e ↦ ap f e | inr w ↦ ap f w.1 ∙ keeps r.1 w.0 ]
 
-pub get-map : (ms : List (MachineState WorldRecord)) (w : ℕ) (m : MachineState WorldRecord) → w < length ms → m ≡ get_or ms w m → get_or (map worker_of ms) w no_worker ≡ worker_of m
+pub get-map : (ms : List (MachineState RingRecord)) (w : ℕ) (m : MachineState RingRecord) → w < length ms → m ≡ get_or ms w m → get_or (map worker_of ms) w no_worker ≡ worker_of m
 get-map [] w m lt e = absurd (omega arith)
 get-map (n ∷ ms) ℕ.zero m lt e = ap worker_of (sym e)
 get-map (n ∷ ms) (ℕ.suc w) m lt e = get-map ms w m (omega arith) e
 
-map-set : (ms : List (MachineState WorldRecord)) (w : ℕ) (m : MachineState WorldRecord) → map worker_of (set ms w m) ≡ set (map worker_of ms) w (worker_of m)
+map-set : (ms : List (MachineState RingRecord)) (w : ℕ) (m : MachineState RingRecord) → map worker_of (set ms w m) ≡ set (map worker_of ms) w (worker_of m)
 map-set [] w m = refl
 map-set (n ∷ ms) ℕ.zero m = refl
 map-set (n ∷ ms) (ℕ.suc w) m = ap (λ l. worker_of n ∷ l) (map-set ms w m)
 
-length-map : (ms : List (MachineState WorldRecord)) → length (map worker_of ms) ≡ length ms
+length-map : (ms : List (MachineState RingRecord)) → length (map worker_of ms) ≡ length ms
 length-map [] = refl
 length-map (n ∷ ms) = ap ℕ.suc (length-map ms)
 
-length-set : (ms : List (MachineState WorldRecord)) (w : ℕ) (m : MachineState WorldRecord) → length (set ms w m) ≡ length ms
+length-set : (ms : List (MachineState RingRecord)) (w : ℕ) (m : MachineState RingRecord) → length (set ms w m) ≡ length ms
 length-set [] w m = refl
 length-set (n ∷ ms) ℕ.zero m = refl
 length-set (n ∷ ms) (ℕ.suc w) m = ap ℕ.suc (length-set ms w m)
 
-module _ (body : WholeWorld) (w : ℕ) (m : MachineState WorldRecord) (inside : w < length body.machines) where
+module _ (body : WholeWorld) (w : ℕ) (m : MachineState RingRecord) (inside : w < length body.machines) where
   worker-at : (j : ℕ) → (shown_world (record body { machines = set body.machines w m })).workers j ≡ table_with w (worker_of m) (shown_world body).workers j
   worker-at j = ap (λ l. get_or l j no_worker) (map-set body.machines w m) ∙ elim (cases_eq j w) [
     | inl same ↦ rw (eq-eqb j w same) (ap (λ i. get_or (set (map worker_of body.machines) w (worker_of m)) i no_worker) same ∙ get_or-set_same (map worker_of body.machines) w (worker_of m) no_worker (subst (λ n. w < n) (sym (length-map body.machines)) inside))
@@ -77,12 +77,12 @@ module _ (body : WholeWorld) (w : ℕ) (m : MachineState WorldRecord) (inside : 
   }
 
 -- one ring and one worker are replaced
-pub shown-both : (body : WholeWorld) (r : ℕ) (s : WorldRing) (w : ℕ) (m : MachineState WorldRecord) → r < length body.rings → w < length body.machines
+pub shown-both : (body : WholeWorld) (r : ℕ) (s : WorldRing) (w : ℕ) (m : MachineState RingRecord) → r < length body.rings → w < length body.machines
     → shown_world (record { rings = set body.rings r s; machines = set body.machines w m }) ≡ with_ring r s (with_worker w (worker_of m) (shown_world body))
 shown-both body r s w m low inside = shown-book (record body { machines = set body.machines w m }) r s low ∙ ap (with_ring r s) (shown-worker body w m inside)
 
 -- a running worker performs its program's next step
-executes-turn : (body : WholeWorld) (w : ℕ) (old : MachineState WorldRecord) (effect : StepEffect) (event : TurnEvent) (after : World) → w < length body.machines → old ≡ get_or body.machines w old → old.phase ≡ phase.Ready
+executes-turn : (body : WholeWorld) (w : ℕ) (old : MachineState RingRecord) (effect : StepEffect) (event : TurnEvent) (after : World) → w < length body.machines → old ≡ get_or body.machines w old → old.phase ≡ phase.Ready
     → next_step old.program.program old.state ≡ effect → ExecutesStep w effect (shown_world body) event after → WorldStep (shown_world body) (Worker w) event after
 executes-turn body w old effect event after inside is ready step does =
     let here : (shown_world body).workers w ≡ worker_of old = get-map body.machines w old inside is in
@@ -90,7 +90,7 @@ executes-turn body w old effect event after inside is ready step does =
     let steps : next_step ((shown_world body).workers w).subject.program ((shown_world body).workers w).state ≡ effect = ap (λ (x : WorkerState). next_step x.subject.program x.state) here ∙ step in
     subst (λ status. TakesWorkerTurn w status (shown_world body) event after) (sym runs) (subst (λ e. ExecutesStep w e (shown_world body) event after) (sym steps) does)
 
-module _ (w : ℕ) (rings : List WorldRing) (old new : MachineState WorldRecord) (ready : old.phase ≡ phase.Ready) where
+module _ (w : ℕ) (rings : List WorldRing) (old new : MachineState RingRecord) (ready : old.phase ≡ phase.Ready) where
   -- an instruction other than a call
   pub went-turn : next_step old.program.program old.state ≡ Goes new.state → new.phase ≡ phase.Ready → new.program ≡ old.program → ((id : ℕ) → held_by new id ≡ held_by old id) → IsWorkerTurn w old rings turn.Went new rings
   went-turn step after program held = λ machines inside is.
@@ -108,7 +108,7 @@ module _ (w : ℕ) (rings : List WorldRing) (old new : MachineState WorldRecord)
       (Ended n, refl, executes-turn body w old (Ends n) (Ended n) _ inside is ready step (refl, shown-worker body w new inside ∙ ap (λ x. with_worker w x (shown_world body)) y))
 
 -- a worker that is not running
-pub idle-turn : (w : ℕ) (rings : List WorldRing) (old : MachineState WorldRecord) → old.phase ≢ phase.Ready → IsWorkerTurn w old rings turn.Idle old rings
+pub idle-turn : (w : ℕ) (rings : List WorldRing) (old : MachineState RingRecord) → old.phase ≢ phase.Ready → IsWorkerTurn w old rings turn.Idle old rings
 idle-turn w rings old still = λ machines inside is.
     let body : WholeWorld = record { rings = rings; machines = machines } in
     let here : ((shown_world body).workers w).status ≡ status_of_phase old.phase = ap (λ (x : WorkerState). x.status) (get-map machines w old inside is) in
@@ -123,8 +123,8 @@ idle-turn w rings old still = λ machines inside is.
 
 -- ---- calls
 
-module _ (w : ℕ) (rings : List WorldRing) (old mid new : MachineState WorldRecord) (r : ℕ) (s s' : WorldRing) (ready : old.phase ≡ phase.Ready) (program : mid.program ≡ old.program) (low : r < length rings) (there : s ≡ get_or rings r s) where
-  module _ (machines : List (MachineState WorldRecord)) (inside : w < length machines) (is : old ≡ get_or machines w old) where
+module _ (w : ℕ) (rings : List WorldRing) (old mid new : MachineState RingRecord) (r : ℕ) (s s' : WorldRing) (ready : old.phase ≡ phase.Ready) (program : mid.program ≡ old.program) (low : r < length rings) (there : s ≡ get_or rings r s) where
+  module _ (machines : List (MachineState RingRecord)) (inside : w < length machines) (is : old ≡ get_or machines w old) where
     abbrev body : WholeWorld
     body = record { rings = rings; machines = machines }
 
@@ -147,7 +147,7 @@ module _ (w : ℕ) (rings : List WorldRing) (old mid new : MachineState WorldRec
         y : ◌≡◌ {A = WorkerState} (record (worker_of mid) { held = held; status = Running }) (record ((shown_world body).workers w) { held = held'; state = mid.state })
         y = (λ i. record { subject = program i; state = mid.state; held = same i; status = (ap status_of_phase (sym ready)) i }) ∙ ap (λ (x : WorkerState). record x { held = held'; state = mid.state }) (sym here)
 
-  kept-held : mid.records ≡ old.records → (machines : List (MachineState WorldRecord)) (inside : w < length machines) (is : old ≡ get_or machines w old) → held_by mid ≡ ((shown_world (body machines inside is)).workers w).held
+  kept-held : mid.records ≡ old.records → (machines : List (MachineState RingRecord)) (inside : w < length machines) (is : old ≡ get_or machines w old) → held_by mid ≡ ((shown_world (body machines inside is)).workers w).held
   kept-held records machines inside is = ap (λ (rs : Held). λ id. option_map place_of (held_record id rs)) records ∙ ap (λ (x : WorkerState). x.held) (sym (here machines inside is))
 
   pub reserve-turn : (len flags : ℕ) (call : HelperCall) → next_step old.program.program old.state ≡ Asks call mid.state → call ≡ Reserve mid.state.unit r len flags → mid.records ≡ left_by call old.records → AnswersReserve w r len flags mid s new s'
@@ -214,7 +214,7 @@ module _ (w : ℕ) (rings : List WorldRing) (old mid new : MachineState WorldRec
 
 -- ---- a record is submitted or discarded
 
-module _ (w : ℕ) (rings : List WorldRing) (old mid new : MachineState WorldRecord) (owned : WorldRecord) (s s' : WorldRing) (ready : old.phase ≡ phase.Ready) (program : mid.program ≡ old.program) (low : owned.ring < length rings) (there : s ≡ get_or rings owned.ring s)
+module _ (w : ℕ) (rings : List WorldRing) (old mid new : MachineState RingRecord) (owned : RingRecord) (s s' : WorldRing) (ready : old.phase ≡ phase.Ready) (program : mid.program ≡ old.program) (low : owned.ring < length rings) (there : s ≡ get_or rings owned.ring s)
     (gives : GivingBack) (hands : RecordPlace → List ℕ → TurnEvent) (call : HelperCall) (id : ℕ) (kind : pending_call_of call ≡ asked.GiveBack) (tells : TellsEvent turn.Went (hands (place_of owned) owned.reservation.granted.bytes)) (found : held_record id old.records ≡ Some owned) (left : mid.records ≡ others id old.records) (mine : owned.reservation.granted.worker ≡ w) where
   is-record : owned.reservation.granted ≡ granted_at (place_of owned) w owned.reservation.granted.bytes
   is-record = ap (λ v. record owned.reservation.granted { worker = v }) mine
@@ -223,7 +223,7 @@ module _ (w : ℕ) (rings : List WorldRing) (old mid new : MachineState WorldRec
   gone i = ap (λ (rs : Held). option_map place_of (held_record i rs)) left ∙ shown-given place_of id old.records i
 
   given-turn : AnswersGivenBack gives owned mid s new s'
-      → (machines : List (MachineState WorldRecord)) → w < length machines → old ≡ get_or machines w old
+      → (machines : List (MachineState RingRecord)) → w < length machines → old ≡ get_or machines w old
       → (event : TurnEvent) × TellsEvent turn.Went event × GivesRecordBack gives hands w call mid.state id owned.reservation.granted.bytes (((shown_world (record { rings = rings; machines = machines })).workers w).held id) (shown_world (record { rings = rings; machines = machines })) event (shown_world (record { rings = set rings owned.ring s'; machines = set machines w new }))
   given-turn (g, goes) = λ machines inside is.
       let world = shown_world (record { rings = rings; machines = machines }) in

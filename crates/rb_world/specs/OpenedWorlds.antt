@@ -12,7 +12,7 @@ use Rattle.rb_interp.specs.declared.step.Phase.TheVariants.{Ready}
 use Rattle.rb_world.specs.OpeningWorld.{BeginsVerified}
 use Rattle.rb_world.specs.declared.world_setup.RingSetup.{RingSetup}
 use Rattle.rb_world.specs.declared.world_setup.WorkerSetup.{WorkerSetup}
-use Rattle.rb_world.specs.declared.world_record.WorldRecord.{WorldRecord}
+use Rattle.rb_chapter_ring.specs.declared.ring_record.RingRecord.{RingRecord}
 use Rattle.rb_world.specs.WorldValue.{KeptRing, WorldValue, worker_of}
 
 -- a ring's size and start are within their bounds
@@ -58,7 +58,7 @@ opened_rings workers number [] = []
 opened_rings workers number (s ∷ rings) = opened_kept_ring workers number s ∷ opened_rings workers (number + 1) rings
 
 -- a machine is at the first instruction of a worker's program, with its context, and holds no record
-pub record IsStarted (x : WorkerSetup) (m : MachineState WorldRecord) : Type 0 where
+pub record IsStarted (x : WorkerSetup) (m : MachineState RingRecord) : Type 0 where
   pub program : m.program ≡ x.program.now
   pub state : m.state ≡ entry_program_state x.context.now
   pub records : m.records ≡ []

@@ -17,7 +17,7 @@ use Rattle.rb_interp.specs.declared.step.Phase.TheVariants as phase
 use Rattle.rb_world.specs.declared.actor.Actor.{Actor}
 use Rattle.rb_world.specs.declared.actor.Actor.TheVariants.{Worker, Consumer, Keeper}
 use Rattle.rb_world.specs.Worlds.{RecordPlace, HeldRecords, WorkerStatus, Running, Finished, Halted, Strayed, WorkerState, WorldRing, World}
-use Rattle.rb_world.specs.declared.world_record.WorldRecord.{WorldRecord}
+use Rattle.rb_chapter_ring.specs.declared.ring_record.RingRecord.{RingRecord}
 
 -- a ring, the chapters that it handed out (oldest first), and what was taken from it
 pub record KeptRing : Type 0 where
@@ -32,18 +32,18 @@ world_ring s = record { ring = whole_ring (joined s.chapters) s.ring.state.ring;
 -- each worker's machine, and each ring
 pub record WorldValue : Type 0 where
   pub rings : List KeptRing
-  pub machines : List (MachineState WorldRecord)
+  pub machines : List (MachineState RingRecord)
 
 -- the same, each ring with its whole history
 pub record WholeWorld : Type 0 where
   pub rings : List WorldRing
-  pub machines : List (MachineState WorldRecord)
+  pub machines : List (MachineState RingRecord)
 
 abbrev pub whole_world : WorldValue → WholeWorld
 whole_world v = record { rings = map world_ring v.rings; machines = v.machines }
 
 -- the place of a record
-abbrev pub place_of : WorldRecord → RecordPlace
+abbrev pub place_of : RingRecord → RecordPlace
 place_of owned = record { ring = owned.ring; pos = owned.reservation.granted.pos; serial = owned.reservation.granted.serial }
 
 -- between turns, no machine waits for an answer
@@ -54,11 +54,11 @@ status_of_phase (phase.Exited n) = Finished n
 status_of_phase phase.Strayed = Strayed
 
 -- the records that a machine holds
-abbrev pub held_by : MachineState WorldRecord → HeldRecords
+abbrev pub held_by : MachineState RingRecord → HeldRecords
 held_by m = λ id. option_map place_of (held_record id m.records)
 
 -- the worker that a machine represents
-abbrev pub worker_of : MachineState WorldRecord → WorkerState
+abbrev pub worker_of : MachineState RingRecord → WorkerState
 worker_of m = record { subject = m.program; state = m.state; held = held_by m; status = status_of_phase m.phase }
 
 -- the default for a worker that does not exist

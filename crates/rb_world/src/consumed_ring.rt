@@ -2,8 +2,7 @@
 
 use crate::ring_answers;
 use crate::turn_done::TurnDone;
-use crate::world_record::WorldRecord;
-use rb_chapter_ring::{Chapter, RecordEnd, RingState};
+use rb_chapter_ring::{Chapter, RecordEnd, RingRecord, RingState};
 use rb_history::Taken;
 use rb_interp::{Answer, Machine};
 use std::alloc::{AllocError, Global};
@@ -61,7 +60,7 @@ impl ConsumedRing {
     // Answers the reserve of a waiting worker.
     pub(crate) fn answer_reserve(
         &mut self,
-        machine: &mut Machine<'_, &[u8], WorldRecord>,
+        machine: &mut Machine<'_, &[u8], RingRecord>,
         alloc: Global,
         w: u32,
         r: u32,
@@ -81,7 +80,7 @@ impl ConsumedRing {
         machine.facts();
         machine.record_facts();
         match ring_answers::reserve(&mut self.ring, alloc, w, len, flags) {
-            Some(reservation) => machine.answer(Answer::Granted(WorldRecord {
+            Some(reservation) => machine.answer(Answer::Granted(RingRecord {
                 ring: r,
                 reservation,
             })),
@@ -92,7 +91,7 @@ impl ConsumedRing {
     // Answers the output of a waiting worker.
     pub(crate) fn answer_output(
         &mut self,
-        machine: &mut Machine<'_, &[u8], WorldRecord>,
+        machine: &mut Machine<'_, &[u8], RingRecord>,
         alloc: Global,
         w: u32,
         flags: u64,
@@ -113,9 +112,9 @@ impl ConsumedRing {
     // Answers the submit or discard of a waiting worker. The record is out in the worker's hand.
     pub(crate) fn answer_given_back(
         &mut self,
-        machine: &mut Machine<'_, &[u8], WorldRecord>,
+        machine: &mut Machine<'_, &[u8], RingRecord>,
         ending: RecordEnd,
-        owned: WorldRecord,
+        owned: RingRecord,
         flags: u64,
     )
         requires out { HasInHand self.old.ring.state owned.reservation.hand owned.reservation.granted }
@@ -133,7 +132,7 @@ impl ConsumedRing {
     }
 
     // Answers the query of a waiting worker.
-    pub(crate) fn answer_query(&self, machine: &mut Machine<'_, &[u8], WorldRecord>, what: u64)
+    pub(crate) fn answer_query(&self, machine: &mut Machine<'_, &[u8], RingRecord>, what: u64)
         requires waits { machine.old.phase ≡ phase.Waiting asked.Query }
         ensures answered { AnswersQuery what machine.old (world_ring self.now) machine.new }
         ensures records { machine.new.records ≡ machine.old.records }

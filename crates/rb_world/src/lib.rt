@@ -39,7 +39,6 @@ mod turn_done;
 mod worker_turn;
 mod world;
 mod world_fault;
-mod world_record;
 mod world_setup;
 
 pub use actor::Actor;
@@ -50,5 +49,4 @@ pub use run::Report;
 pub use turn_done::TurnDone;
 pub use world::World;
 pub use world_fault::{WorldFault, WorldOpenFault};
-pub use world_record::WorldRecord;
 pub use world_setup::{RingSetup, WorkerSetup};

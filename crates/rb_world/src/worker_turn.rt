@@ -10,14 +10,13 @@ ghost use Rattle.rb_world.specs.WorldValue.{world_ring, worker_of};
 
 use crate::consumed_ring::ConsumedRing;
 use crate::turn_done::TurnDone;
-use crate::world_record::WorldRecord;
-use rb_chapter_ring::RecordEnd;
+use rb_chapter_ring::{RecordEnd, RingRecord};
 use rb_interp::{Machine, Phase, Request, Step};
 use std::alloc::Global;
 
 // Executes the worker's next instruction. If it is a helper call, answers it.
 pub(crate) fn work(
-    machine: &mut Machine<'_, &[u8], WorldRecord>,
+    machine: &mut Machine<'_, &[u8], RingRecord>,
     rings: &mut Vec<ConsumedRing>,
     alloc: Global,
     w: u32,

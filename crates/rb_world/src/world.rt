@@ -5,9 +5,8 @@ use crate::consumed_ring::ConsumedRing;
 use crate::turn_done::TurnDone;
 use crate::worker_turn::work;
 use crate::world_fault::WorldOpenFault;
-use crate::world_record::WorldRecord;
 use crate::world_setup::{RingSetup, WorkerSetup, check_setups, open_rings, start_machines};
-use rb_chapter_ring::{Chapter, RingState};
+use rb_chapter_ring::{Chapter, RingRecord, RingState};
 use rb_history::Taken;
 use rb_interp::{Machine, Phase};
 use std::alloc::Global;
@@ -25,7 +24,7 @@ use std::marker::Model;
 pub struct World<'p> {
     alloc: Global,
     rings: Vec<ConsumedRing>,
-    machines: Vec<Machine<'p, &'p [u8], WorldRecord>>,
+    machines: Vec<Machine<'p, &'p [u8], RingRecord>>,
 }
 
 impl<'p> Model for World<'p> {

@@ -9,8 +9,7 @@ ghost use Rattle.rb_world.specs.OpenedWorlds.{IsRingSetup, AreRings, HaveRooms, 
 
 use crate::consumed_ring::ConsumedRing;
 use crate::world_fault::WorldOpenFault;
-use crate::world_record::WorldRecord;
-use rb_chapter_ring::{OpenFault, RingState};
+use rb_chapter_ring::{OpenFault, RingRecord, RingState};
 use rb_history::{is_size, is_start};
 use rb_interp::Machine;
 use rb_verifier::Verified;
@@ -165,7 +164,7 @@ pub(crate) fn open_rings(
 }
 
 // Returns a worker's machine at its program's first instruction.
-fn start_machine<'p>(worker: WorkerSetup<'p>) -> Machine<'p, &'p [u8], WorldRecord>
+fn start_machine<'p>(worker: WorkerSetup<'p>) -> Machine<'p, &'p [u8], RingRecord>
     requires length { length worker.context.now ≡ worker.program.now.ctx_len }
     ensures started { IsStarted worker.entry result }
 {
@@ -181,7 +180,7 @@ fn start_machine<'p>(worker: WorkerSetup<'p>) -> Machine<'p, &'p [u8], WorldReco
 pub(crate) fn start_machines<'p>(
     alloc: Global,
     workers: &[WorkerSetup<'p>],
-) -> Result<Vec<Machine<'p, &'p [u8], WorldRecord>>, AllocError>
+) -> Result<Vec<Machine<'p, &'p [u8], RingRecord>>, AllocError>
     requires contexts { HaveContexts workers.now }
     ensures started { IfOk result (λ machines. AllZip IsStarted workers.now machines.items) }
 {

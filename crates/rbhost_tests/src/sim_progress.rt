@@ -2,6 +2,7 @@
 
 use crate::expected::same;
 use crate::fakes::FakeReader;
+use rb_json::LineForm;
 use rb_script::{TurnWatch, sim};
 use std::cell::Cell;
 
@@ -34,7 +35,14 @@ fn each_turn_is_reported_with_their_total(rt: HostRuntime) {
     };
     let mut reader = FakeReader::new(SCRIPT, 7);
     let mut printed = Vec::new(rt.alloc());
-    let ended = sim(rt.alloc(), &mut reader, &mut printed, false, &watch);
+    let ended = sim(
+        rt.alloc(),
+        &mut reader,
+        &mut printed,
+        false,
+        LineForm::Words,
+        &watch,
+    );
     same(
         &rt,
         &(ended, watch.turns.get(), watch.others.get()),

@@ -48,7 +48,7 @@ def block_after(lines: list[str], start: int) -> list[str]:
     at = start
     while at < len(lines) and not lines[at].strip():
         at += 1
-    block = []
+    block: list[str] = []
     if at < len(lines) and lines[at].startswith("```"):
         for line in lines[at + 1 :]:
             if line.startswith("```"):

@@ -53,13 +53,6 @@ def programs_in_c() -> list[int]:
     return [len(list((ROOT / "examples" / "c").glob("*.c")))]
 
 
-def kept_room() -> list[int]:
-    """Returns the room of a chapter in addition to that for the records of its ring."""
-    return [
-        first(SIZES_OF_CHAPTERS, "HANDED_OUT_AT: u32 = #")[0] + first(SIZES_OF_CHAPTERS, "BETWEEN_LOOKS: u64 = #")[0]
-    ]
-
-
 def least_lengths() -> list[int]:
     """Returns the sizes of rings above 2 MiB, and the minimal length of their records for their chapters."""
     found = matches(text_of(LAW_OF_CHAPTERS), "of_#_mib : (least : ℕ) → # ≤ least")
@@ -89,6 +82,7 @@ TRIES = ("rb_jobs/src/ring_calls.rt", "CHAPTER_TRIES: u32 = #")
 BATCH = ("rb_workers/src/pace.rt", "BATCH: usize = #")
 PART_OF_ROOM = ("rb_workers/src/pace.rt", "PART_OF_ROOM: usize = #")
 SIZES_OF_CHAPTERS = "rb_workers/src/chapter_sizes.rt"
+SNAPSHOT = "rb_chapter_ring/src/snapshot.rt"
 LAW_OF_CHAPTERS = "rb_workers/specs/ChapterSizes.antt"
 LOOKS = (SIZES_OF_CHAPTERS, "(size / #).max(#).min(#)")
 MOST_ROOM = (SIZES_OF_CHAPTERS, "MOST: u64 = #")
@@ -150,7 +144,17 @@ STATED: list[tuple[str, str, Sequence[Source]]] = [
         "# entries for each record that the ring can have at once",
         [(LAW_OF_CHAPTERS, "size / 8 * # + look_after size")],
     ),
-    ("DECISIONS.md", "and for each between two looks, plus #; at most #", [kept_room, MOST_ROOM]),
+    ("DECISIONS.md", "and for each between two looks, # for refusals", [(SIZES_OF_CHAPTERS, "BETWEEN_LOOKS: u64 = #")]),
+    (
+        "DECISIONS.md",
+        "an eighth of the ring's bytes, # to #. At most # in all",
+        [(SIZES_OF_CHAPTERS, "(size / 8).max(#).min(#)"), MOST_ROOM],
+    ),
+    (
+        "DECISIONS.md",
+        "if at least # records of the list were taken, and at most half as many and at most # are left",
+        [(SNAPSHOT, "LEAST_TAKEN: usize = #"), (SNAPSHOT, "MOST_MOVED: usize = #")],
+    ),
     ("DECISIONS.md", "A ring with chapters of # entries and a spare one", [FED_ROOM]),
     ("DECISIONS.md", "*Costs:* one more write for each # bytes of input", [AHEAD]),
     ("DECISIONS.md", "It reads up to # bytes at once and hands a `Feed` at most # of them", [AHEAD, PIECE]),

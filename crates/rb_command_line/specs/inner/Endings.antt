@@ -1,9 +1,11 @@
 -- What a command did before the end of the tape of `feed` is reported.
-use Rattle.std.specs.Prelude.{◌≡◌, ℕ, List, Option, None, Some, Ok}
+use Rattle.std.specs.Prelude.{◌≡◌, ℕ, List, Option, None, Some, IfSome}
 use Rattle.std.specs.Io.KnownBytes.{Appends, Keeps}
 use Rattle.rb_history.specs.RingModel.{IsRingSize, IsStartPosition}
+use Rattle.rb_history.specs.TapeBytes.{AreItemsFrom, tape}
 use Rattle.rb_json.specs.declared.form.LineForm.{LineForm}
-use Rattle.rb_tape_commands.specs.Feed.{FeedAnswerMatches}
+use Rattle.rb_tape_commands.specs.Feed.{ends_of}
+use Rattle.rb_tape_commands.specs.Input.{framed_all, payload_events}
 use Rattle.rb_command_line.specs.Commands.{CarriesOut, Streams, end_line}
 use Rattle.rb_command_line.specs.declared.request.Subcommand.{Subcommand}
 use Rattle.rb_command_line.specs.declared.request.Subcommand.TheVariants.{Feed, Tape, Check, Explain, Cost, Run, Sim}
@@ -15,14 +17,19 @@ form_of (Tape size start form) = form
 form_of (Check bounds form portable) = form
 form_of (Explain bounds form portable) = form
 form_of (Cost bounds form sizes) = form
-form_of (Run jobs tape) = jobs.form
+form_of (Run jobs file) = jobs.form
 form_of (Sim draw form) = form
 
--- the input consists of whole payloads whose tape ends at these positions, and nothing was printed on the error output
+-- the input consists of whole payloads, exactly their tape went to the output, it ends at these positions, and nothing
+-- was printed on the error output
 pub record FeedsTo (size start : ℕ) (ends : ℕ × ℕ) (s : Streams) : Type 0 where
   pub size_is : IsRingSize size
   pub start_is : IsStartPosition start
-  pub whole : FeedAnswerMatches size start s.input (Ok ends)
+  pub payloads : List (List ℕ)
+  pub stand : AreItemsFrom size start (payload_events start payloads)
+  pub whole : IfSome s.input (λ input. input ≡ framed_all payloads)
+  pub written : Appends s.out_before s.out_after (tape size (payload_events start payloads))
+  pub ends_are : ends ≡ ends_of start payloads
   pub quiet : Keeps s.err_before s.err_after
 
 -- `feed` returns where its tape ends, and every other command nothing
@@ -33,7 +40,7 @@ EndsWith F contents (Tape size start form) s end = (end ≡ None) × CarriesOut 
 EndsWith F contents (Check bounds form portable) s end = (end ≡ None) × CarriesOut F contents (Check bounds form portable) s
 EndsWith F contents (Explain bounds form portable) s end = (end ≡ None) × CarriesOut F contents (Explain bounds form portable) s
 EndsWith F contents (Cost bounds form sizes) s end = (end ≡ None) × CarriesOut F contents (Cost bounds form sizes) s
-EndsWith F contents (Run jobs tape) s end = (end ≡ None) × CarriesOut F contents (Run jobs tape) s
+EndsWith F contents (Run jobs file) s end = (end ≡ None) × CarriesOut F contents (Run jobs file) s
 EndsWith F contents (Sim draw form) s end = (end ≡ None) × CarriesOut F contents (Sim draw form) s
 
 -- the end of the tape of `feed` was printed; of another command, nothing was

@@ -4,7 +4,7 @@ use Rattle.std.proofs.lemmas.List.{length-take, length-drop}
 use Rattle.rb_lend.specs.Ranges.{in_place_of}
 use Rattle.rb_chapter_ring.specs.Hands.{hand_at, out_record}
 use Rattle.rb_interp.specs.AnsweredCalls.{AnsweredCall}
-use Rattle.rb_engine.specs.declared.engine_record.EngineRecord.{EngineRecord}
+use Rattle.rb_chapter_ring.specs.declared.ring_record.RingRecord.{RingRecord}
 use Rattle.rb_engine.specs.EngineCalls.{IsStillOut, Leads, RunRings}
 
 -- a sequence of no calls leaves the rings unchanged
@@ -12,17 +12,17 @@ pub none_called : (h : RunRings) → Leads h [] h
 none_called h = refl
 
 -- a sequence of calls, followed by calls from the state to which it led
-pub called_on : (a b c : RunRings) (first more : List (AnsweredCall EngineRecord)) → Leads a first b → Leads b more c → Leads a (first ++ more) c
+pub called_on : (a b c : RunRings) (first more : List (AnsweredCall RingRecord)) → Leads a first b → Leads b more c → Leads a (first ++ more) c
 called_on a b c [] more before after = subst (λ h. Leads h more c) before after
 called_on a b c (call ∷ later) more before after = (before.0, before.1, called_on before.0 b c later more before.2 after)
 
 same_length : (old new : List ℕ) → length (in_place_of old new) ≡ length old
 same_length old new = grind (arith, length-append, length-take, length-drop)
 
-abbrev with_bytes : EngineRecord → List ℕ → EngineRecord
+abbrev with_bytes : RingRecord → List ℕ → RingRecord
 with_bytes r w = record r { reservation = record r.reservation { granted = record r.reservation.granted { bytes = in_place_of r.reservation.granted.bytes w } } }
 
-pub kept_written : (h : RunRings) (r : EngineRecord) (w : List ℕ) → IsStillOut h.rings r → IsStillOut h.rings (with_bytes r w)
+pub kept_written : (h : RunRings) (r : RingRecord) (w : List ℕ) → IsStillOut h.rings r → IsStillOut h.rings (with_bytes r w)
 kept_written h r w kept = record {
   ring = kept.ring;
   ring_is = kept.ring_is;

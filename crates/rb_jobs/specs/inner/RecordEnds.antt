@@ -9,7 +9,7 @@ use Rattle.rb_ledger.specs.RecordEnds.{EndsAt, sent_by_end}
 use Rattle.rb_interp.specs.declared.completed_call.Done.{Done}
 use Rattle.rb_interp.specs.declared.completed_call.Done.TheVariants.{Submit as SubmitNote, Discard as DiscardNote}
 use Rattle.rb_interp.specs.AnsweredCalls.{AnsweredCall, Submitted, Discarded}
-use Rattle.rb_jobs.specs.declared.seat_record.SeatRecord.{SeatRecord}
+use Rattle.rb_chapter_ring.specs.declared.ring_record.RingRecord.{RingRecord}
 use Rattle.rb_jobs.specs.SeatCalls.{IsOutAtSeat, SeatCallsRing, notice_of}
 
 -- what the call does to the seat: it is accepted if and only if the reservation is out there, at one call of the ring;
@@ -22,7 +22,7 @@ pub record SeatEnds (end : RecordEnd) (r : HandGranted) (flags : ℕ) (taken due
   pub hands_back : taken ≡ false → (due ≡ false) × (a ≡ b)
 
 -- the call of the helpers
-abbrev pub ended_call : RecordEnd → SeatRecord → ℕ → Bool → AnsweredCall SeatRecord
+abbrev pub ended_call : RecordEnd → RingRecord → ℕ → Bool → AnsweredCall RingRecord
 ended_call Submit owned flags taken = Submitted owned flags taken
 ended_call Discard owned flags taken = Discarded owned flags taken
 

@@ -8,9 +8,8 @@ ghost use Rattle.rb_jobs.specs.inner.RecordEnds.{SeatEnds, ended_call, ended_not
 
 use crate::job::Gate;
 use crate::seat_helpers::SeatHelpers;
-use crate::seat_record::SeatRecord;
 use crate::stock::Stock;
-use rb_chapter_ring::RecordEnd;
+use rb_chapter_ring::{RecordEnd, RingRecord};
 use rb_history::Notice;
 use rb_interp::Done;
 use rb_shared_ring::Reservation;
@@ -22,10 +21,10 @@ impl<'h, R: Wait, S: Stock, G: Gate> SeatHelpers<'h, R, S, G> {
     // its ring is not among the helpers' rings, or if it is not out in a hand of the seat there.
     pub(crate) fn give_back(
         &mut self,
-        owned: SeatRecord,
+        owned: RingRecord,
         end: RecordEnd,
         flags: u64,
-    ) -> Result<(), SeatRecord>
+    ) -> Result<(), RingRecord>
         requires room { 0 < self.old.room }
         ensures trace { self.new.trace ≡ self.old.trace ++ ended_note end flags (is_ok result) ∷ [] }
         ensures room { self.new.room + 1 ≡ self.old.room }
@@ -34,7 +33,7 @@ impl<'h, R: Wait, S: Stock, G: Gate> SeatHelpers<'h, R, S, G> {
         ensures called { Leads self.old (ended_call end owned flags (is_ok result) ∷ []) self.new }
         ensures call { CallsHelpers (ended_call end owned flags (is_ok result)) self.old self.new }
     {
-        let SeatRecord { ring, reservation } = owned;
+        let RingRecord { ring, reservation } = owned;
         let answer = self.try_give_back(ring, reservation, end, flags);
         match answer {
             Ok(_) => {
@@ -43,7 +42,7 @@ impl<'h, R: Wait, S: Stock, G: Gate> SeatHelpers<'h, R, S, G> {
             }
             Err(reservation) => {
                 self.log(note_of_end(end, flags, false), false);
-                Err(SeatRecord { ring, reservation })
+                Err(RingRecord { ring, reservation })
             }
         }
     }

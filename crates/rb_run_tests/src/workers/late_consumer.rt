@@ -230,6 +230,7 @@ fn a_late_consumer_takes_the_rest_and_its_keeper_looks_between_batches(rt: HostR
         ],
         &[u64::from(RECORDS), 1, 1 + BATCH, 0],
     );
+    drop(ended);
 }
 
 #[test]
@@ -247,4 +248,5 @@ fn a_keeper_looks_if_its_consumer_found_nothing(rt: HostRuntime) {
         ],
         &[0, 1, 0],
     );
+    drop(ended);
 }

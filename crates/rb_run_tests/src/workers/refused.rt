@@ -70,6 +70,7 @@ fn an_unknown_ring_is_told_before_an_unknown_worker(rt: HostRuntime) {
     let jobs = [job(5, &program, &CONTEXT)];
     let told = refusal(&rt, rt.alloc(), &jobs);
     same(&rt, &told, &(JobFault::UnknownRing, 0, 0));
+    drop(program);
 }
 
 #[test]
@@ -78,6 +79,7 @@ fn an_unknown_worker_is_told(rt: HostRuntime) {
     let jobs = [job(1, &program, &CONTEXT), job(2, &program, &CONTEXT)];
     let told = refusal(&rt, rt.alloc(), &jobs);
     same(&rt, &told, &(JobFault::UnknownWorker, 0, 0));
+    drop(program);
 }
 
 // Runs the jobs again until memory suffices, at most three times.
@@ -110,6 +112,7 @@ fn what_comes_back_without_memory_runs_again(rt: HostRuntime) {
     let jobs = [job(0, &program, &CONTEXT), job(1, &program, &CONTEXT)];
     let ended = run_again(&rt, alloc, one_ring(&rt, alloc, 2, ROOM), &jobs);
     same(&rt, &ended, &(0, 1));
+    drop(program);
 }
 
 // Returns why no such ring is opened.

@@ -130,6 +130,7 @@ fn four_workers_submit_a_hundred_times_each(rt: HostRuntime) {
     let ended = first_ring(&rt, &report);
     let made = added(ended).0;
     is_taken(&rt, ended, made, made);
+    drop(report);
 }
 
 // Runs two workers, one of which holds its record while the other submits one, with chapters of this room.
@@ -149,6 +150,7 @@ fn hold_a_reservation<R: Threads + Wait + Sync + Abort>(rt: &R, alloc: Global, r
     let ended = first_ring(rt, &report);
     same(rt, &added(ended), &(2, 0, 2, 0));
     is_taken(rt, ended, 2, 2);
+    drop(report);
 }
 
 #[test]
@@ -198,6 +200,7 @@ fn answers_stand_in_the_order_of_the_jobs(rt: HostRuntime) {
         same_of(&rt, &report.answers.get(n).copied(), &Some(wanted), &n);
     }
     same(&rt, &(report.strays, report.answers.len()), &(0, 30));
+    drop(report);
 }
 
 // Returns how often worker 0 and the others called the gate, and the sum of the others' numbers of finished calls.
@@ -286,6 +289,7 @@ fn two_rings_have_each_context_once(rt: HostRuntime) {
     for (at, ended) in report.rings.iter().enumerate() {
         has_each_once(&rt, ended, at);
     }
+    drop(report);
 }
 
 #[test]
@@ -297,4 +301,5 @@ fn no_ring_and_no_job_give_an_empty_report(rt: HostRuntime) {
     let lengths = (report.rings.len(), report.answers.len());
     let came = gate.first.load(Ordering::SeqCst);
     same(&rt, &(numbers, lengths, came), &((0, 0), (0, 0), 0));
+    drop(report);
 }

@@ -99,4 +99,5 @@ fn nothing_of_a_used_sheet_is_seen(rt: HostRuntime) {
     for ended in &report.rings {
         has_both(&rt, ended);
     }
+    drop(report);
 }

@@ -93,6 +93,8 @@ fn a_record_outlives_its_chapter(rt: HostRuntime) {
         &history(&rt, rt.alloc(), &world).as_slice(),
         &[Entry::Res(0, 0, 8, 0), Entry::Sub(0), Entry::Take(0)].as_slice(),
     );
+    drop(world);
+    drop(program);
 }
 
 const TWO_BUSY: Counts = Counts {
@@ -115,6 +117,8 @@ fn a_full_chapter_gives_no_record(rt: HostRuntime) {
     same(&rt, &ring_0(&rt, &world), &(32, 0, TWO_BUSY));
     let done = turns(&rt, &mut world, Actor::Worker(2), 3);
     same(&rt, &done, &TurnDone::Finished(0));
+    drop(world);
+    drop(program);
 }
 
 #[test]
@@ -136,4 +140,6 @@ fn a_second_chapter_is_handed_out(rt: HostRuntime) {
         &history(&rt, rt.alloc(), &world).as_slice(),
         &[Entry::Res(0, 0, 8, 0), Entry::Sub(0)].as_slice(),
     );
+    drop(world);
+    drop(program);
 }

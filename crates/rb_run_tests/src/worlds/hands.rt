@@ -53,4 +53,6 @@ fn a_worker_holds_four_records(rt: HostRuntime) {
             TurnDone::Finished(0),
         ),
     );
+    drop(world);
+    drop(program);
 }

@@ -231,6 +231,7 @@ fn every_order_of_two_workers_over_room_for_one_record(rt: HostRuntime) {
     let often = [2, 2, 0, 4];
     let orders = orders_that_run(&rt, rt.alloc(), &workers, often, 4008, Status::Waiting);
     same(&rt, &orders, &420);
+    drop(program);
 }
 
 #[test]
@@ -240,4 +241,5 @@ fn every_order_of_three_workers_that_discard(rt: HostRuntime) {
     let often = [2, 2, 2, 2];
     let orders = orders_that_run(&rt, rt.alloc(), &workers, often, 16, Status::Discarded);
     same(&rt, &orders, &2520);
+    drop(program);
 }

@@ -57,6 +57,7 @@ fn the_first_refusal_is_told(rt: HostRuntime) {
         let found = fault(&rt, rt.alloc(), program, *ring, context, *workers);
         same_of(&rt, &found, wanted, &(ring, context, workers));
     }
+    drop((one, two));
 }
 
 // Returns why the actors are not run.
@@ -75,4 +76,6 @@ fn an_unknown_actor_is_told_by_its_place(rt: HostRuntime) {
         let found = run_fault(&rt, &mut world, &[Actor::Worker(0), *unknown]);
         same_of(&rt, &found, &WorldFault::UnknownActor(1), unknown);
     }
+    drop(world);
+    drop(program);
 }

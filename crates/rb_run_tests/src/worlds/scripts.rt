@@ -65,6 +65,8 @@ fn a_busy_record_stops_the_consumer(rt: HostRuntime) {
         &(events, ring_0(&rt, &world)),
         &([true, true], (32, 32, TWO_CONSUMED)),
     );
+    drop((world, report));
+    drop(program);
 }
 
 // Returns the answers of the script's turns, one by one.
@@ -88,4 +90,6 @@ fn a_run_answers_as_its_turns_do(rt: HostRuntime) {
         &report.turns.as_slice(),
         &turned(&rt, &mut other).as_slice(),
     );
+    drop((world, other, report));
+    drop(program);
 }

@@ -1,7 +1,7 @@
 -- Printing a tape, piece by piece of the input.
-use Rattle.std.specs.Prelude.{ℕ, ◌≡◌, ◌≢◌, ◌-◌, List, [], Option, None, Result, Ok, Err}
+use Rattle.std.specs.Prelude.{ℕ, ◌≡◌, ◌≢◌, ◌-◌, List, [], Option, None, IfSome, Result, Ok, Err}
 use Rattle.std.specs.Io.KnownBytes.{Appends, Consumes}
-use Rattle.rb_history.specs.TapeBytes.{Item}
+use Rattle.rb_history.specs.TapeBytes.{AreItemsFrom, Item, tape}
 use Rattle.rb_tape.specs.TapeReading.{Reading}
 use Rattle.rb_tape.specs.LongestTape.{HasReadItems}
 use Rattle.rb_json.specs.declared.form.LineForm.{LineForm}
@@ -27,3 +27,7 @@ pub record PrintsSoFar (form : LineForm) (size start : ℕ) (unread left before 
   pub no_fault : r.told ≡ None
   pub items_read : HasReadItems size start bytes items r.position r.rest
   pub printed : Appends before after (tape_lines form items)
+
+-- exactly the lines of the items of a whole tape were printed: of the input, if it is known
+abbrev pub PrintsWhole : LineForm → ℕ → ℕ → Option (List ℕ) → Option (List ℕ) → Option (List ℕ) → Type 0
+PrintsWhole form size start input before after = (items : List Item) × AreItemsFrom size start items × IfSome input (λ bytes. bytes ≡ tape size items) × Appends before after (tape_lines form items)

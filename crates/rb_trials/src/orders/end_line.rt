@@ -23,12 +23,20 @@ pub(crate) fn write_end<W: Write>(world: &World<'_>, workers: u32, out: &mut W) 
 
 // Writes the ring's positions and counts.
 fn write_counts<W: Write>(ring: &RingState, out: &mut W) -> io::Result<()> {
-    let (producer, consumer, counts) = (ring.query(3), ring.query(2), ring.counts());
-    write!(
-        out,
-        "producer {producer} consumer {consumer} made {} refused {} consumed {} discarded {} waiting {} busy {}",
-        counts.made, counts.refused, counts.consumed, counts.discarded, counts.waiting, counts.busy
-    )
+    let counts = ring.counts();
+    for (word, number) in [
+        ("producer ", ring.query(3)),
+        (" consumer ", ring.query(2)),
+        (" made ", counts.made),
+        (" refused ", counts.refused),
+        (" consumed ", counts.consumed),
+        (" discarded ", counts.discarded),
+        (" waiting ", counts.waiting),
+        (" busy ", counts.busy),
+    ] {
+        write!(out, "{word}{number}")?;
+    }
+    Ok(())
 }
 
 fn write_results<W: Write>(world: &World<'_>, workers: u32, out: &mut W) -> io::Result<()> {

@@ -4,6 +4,7 @@ ghost use Rattle.std.specs.Prelude.{◌≡◌, ◌∷◌, [], IfSome};
 
 use super::memory::TRIES;
 use crate::fault::TrialFault;
+use crate::fields::{end_line, print_field};
 use rb_chapter_ring::Chapter;
 use rb_for_tests::OpenRing;
 use rb_history::Counts;
@@ -25,7 +26,8 @@ pub(crate) fn close<R: Wait + Print>(
 {
     let back = not_closed(rt, opened, zero)?;
     let (ring, mut seats, consumer) = (back.ring, back.seats, back.consumer);
-    let _ = println!(rt; "close: not all with {} seat", seats.len());
+    print_field(rt, "close: not all with ", &seats.len());
+    print_field(rt, " seat", &"\n");
     if seats.push(one).is_err() {
         return None;
     }
@@ -60,7 +62,8 @@ pub(crate) fn bind<R: Print>(
     for _ in 0..TRIES {
         match closing.bind(alloc, chapters) {
             Ok(whole) => {
-                let _ = println!(rt; "bind: {} entries", whole.history().len());
+                print_field(rt, "bind: ", &whole.history().len());
+                print_field(rt, " entries", &"\n");
                 tell_sum(rt, whole.closing().counts());
                 return Ok(());
             }
@@ -77,24 +80,20 @@ pub(crate) fn bind<R: Print>(
 
 // Prints the state of the closed ring, and how many chapters there are besides its last.
 fn tell_closing<R: Print>(rt: &R, call: &str, closing: &Closing, chapters: usize) {
-    let (producer, consumer) = (closing.producer(), closing.consumer());
-    let number = closing.chapter().number();
-    let _ = println!(rt;
-        "{call}: producer {producer} consumer {consumer} chapter {number} beside {chapters}"
-    );
+    print_field(rt, call, &":");
+    print_field(rt, " producer ", &closing.producer());
+    print_field(rt, " consumer ", &closing.consumer());
+    print_field(rt, " chapter ", &closing.chapter().number());
+    print_field(rt, " beside ", &chapters);
+    end_line(rt);
 }
 
 // Prints the counts of the granted records.
 fn tell_sum<R: Print>(rt: &R, counts: Counts) {
-    let Counts {
-        made,
-        consumed,
-        discarded,
-        waiting,
-        busy,
-        ..
-    } = counts;
-    let _ = println!(rt;
-        "made {made} = consumed {consumed} + discarded {discarded} + waiting {waiting} + busy {busy}"
-    );
+    print_field(rt, "made ", &counts.made);
+    print_field(rt, " = consumed ", &counts.consumed);
+    print_field(rt, " + discarded ", &counts.discarded);
+    print_field(rt, " + waiting ", &counts.waiting);
+    print_field(rt, " + busy ", &counts.busy);
+    end_line(rt);
 }

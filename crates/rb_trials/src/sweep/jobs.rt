@@ -7,6 +7,7 @@ use super::memory::{TRIES, tell_memory};
 use super::programs::{OUTPUT, RESERVE, verified};
 use super::snapshot::tell_counts;
 use crate::fault::TrialFault;
+use crate::fields::{end_line, print_field};
 use crate::ring_lists::list_of_one;
 use rb_interp::RunFault;
 use rb_shared_ring::OpenFault;
@@ -71,16 +72,18 @@ fn tell_answers<R: Print>(rt: &R, answers: &[Result<u64, RunFault>]) {
 }
 
 fn tell_answer<R: Print, T: Display>(rt: &R, answer: &T) {
-    let _ = println!(rt; "job: {answer}");
+    print_field(rt, "job: ", answer);
+    end_line(rt);
 }
 
 // Prints how many records failed to be allocated without an entry that explains it, and the final state of each ring.
 fn tell_report<R: Print>(rt: &R, report: &JobsReport<NullSink>) {
     // `strays` is 0 in each report of `run_jobs`, by its clause `no_strays`.
-    let (unlogged, strays) = (report.unlogged, report.strays);
-    let _ = println!(rt; "unlogged {unlogged} strays {strays}");
+    print_field(rt, "unlogged ", &report.unlogged);
+    print_field(rt, " strays ", &report.strays);
+    end_line(rt);
     for ended in &report.rings {
-        let _ = print!(rt; "ring: entries {} ", ended.closing.chapter().used());
+        print_field(rt, "ring: entries ", &ended.closing.chapter().used());
         tell_counts(rt, ended.closing.counts());
     }
 }
@@ -110,16 +113,19 @@ fn report<R: Threads + Wait + Sync + Print>(
 // that were not taken.
 fn tell_all<R: Print>(rt: &R, call: &str, rings: &[Opened<NullSink>]) {
     for one in rings {
-        let _ = print!(rt; "{call}: seats {}", one.seats.len());
+        print_field(rt, call, &":");
+        print_field(rt, " seats ", &one.seats.len());
         let (mut busy, mut waiting): (u64, u64) = (0, 0);
         for seat in &one.seats {
             let ended = seat.submitted().wrapping_add(seat.discarded());
             busy = busy.wrapping_add(seat.made().wrapping_sub(ended));
             waiting = waiting.wrapping_add(seat.submitted());
-            let _ = print!(rt; " made {}", seat.made());
+            print_field(rt, " made ", &seat.made());
         }
         waiting = waiting.wrapping_sub(one.consumer.consumed());
-        let _ = println!(rt; " busy {busy} waiting {waiting}");
+        print_field(rt, " busy ", &busy);
+        print_field(rt, " waiting ", &waiting);
+        end_line(rt);
     }
 }
 

@@ -7,6 +7,7 @@ use super::shared_rings::opened;
 use super::sheets::{LONG, filled, renew};
 use super::snapshot::tell_counts;
 use crate::fault::TrialFault;
+use crate::fields::print_field;
 use rb_history::Taken;
 use rb_lend::Sheet;
 use rb_shared_ring::{ConsumerSeat, Seat, SharedRing};
@@ -76,15 +77,20 @@ fn tell<R: Wait + Print>(rt: &R, call: &str, ring: &SharedRing, seat: &mut Seat)
     ensures { IsSameSeat seat.old seat.new }
 {
     let Ok(audit) = ring.audit(rt, seat) else {
-        let _ = println!(rt; "{call}: foreign");
+        print_field(rt, call, &": foreign\n");
         return;
     };
-    let (made, refused) = (seat.made(), seat.refused());
-    let (submitted, discarded) = (seat.submitted(), seat.discarded());
-    let (producer, consumer) = (audit.producer, audit.consumer);
-    let _ = print!(rt;
-        "{call}: seat made {made} refused {refused} submitted {submitted} discarded {discarded}, "
-    );
-    let _ = print!(rt; "ring producer {producer} consumer {consumer} ");
+    tell_seat(rt, call, seat);
+    print_field(rt, ", ring producer ", &audit.producer);
+    print_field(rt, " consumer ", &audit.consumer);
     tell_counts(rt, audit.counts);
+}
+
+// Prints what the seat counted.
+fn tell_seat<R: Print>(rt: &R, call: &str, seat: &Seat) {
+    print_field(rt, call, &":");
+    print_field(rt, " seat made ", &seat.made());
+    print_field(rt, " refused ", &seat.refused());
+    print_field(rt, " submitted ", &seat.submitted());
+    print_field(rt, " discarded ", &seat.discarded());
 }

@@ -10,6 +10,7 @@ use super::memory::{TRIES, tell_memory};
 use super::rings::ROOM;
 use super::sheets::filled;
 use crate::fault::TrialFault;
+use crate::fields::{end_line, print_field};
 use rb_chapter_ring::Chapter;
 use rb_for_tests::OpenRing;
 use rb_history::Taken;
@@ -91,7 +92,10 @@ fn take<R: Wait + Print>(
 {
     match ring.take(rt, consumer) {
         Ok(Taken::Event(pos, worker, _, sheet)) => {
-            let _ = println!(rt; "take: {pos} of worker {worker}, {} bytes", sheet.len());
+            print_field(rt, "take: ", &pos);
+            print_field(rt, " of worker ", &worker);
+            print_field(rt, ", ", &sheet.len());
+            print_field(rt, " bytes", &"\n");
             Ok(())
         }
         _ => Err(TrialFault::Otherwise("take")),
@@ -130,7 +134,8 @@ fn output<R: Wait + Print>(
     if ring.output(rt, seat, sheet, 0).is_err() {
         return Err(TrialFault::Otherwise("output"));
     }
-    let _ = println!(rt; "output: made {}", seat.made());
+    print_field(rt, "output: made ", &seat.made());
+    end_line(rt);
     Ok(())
 }
 
@@ -151,7 +156,8 @@ fn handed_out<R: Wait + Print>(
     let Ok(chapter) = ring.hand_out(rt, consumer, empty) else {
         return Err(TrialFault::Otherwise("hand out"));
     };
-    let _ = println!(rt; "hand out: {} entries", chapter.used());
+    print_field(rt, "hand out: ", &chapter.used());
+    print_field(rt, " entries", &"\n");
     // The list has room for it.
     match chapters.push(chapter) {
         Ok(()) => Ok(chapters),

@@ -4,6 +4,7 @@ ghost use Rattle.std.specs.Prelude.{◌≡◌, IfSome, length};
 
 use super::memory::TRIES;
 use crate::fault::TrialFault;
+use crate::fields::{end_line, print_field};
 use rb_lend::{Lent, Sheet};
 use std::alloc::Global;
 use std::io::Print;
@@ -56,5 +57,8 @@ fn tell_sheet<R: Print>(rt: &R, call: &str, sheet: &Sheet) {
     for byte in sheet.bytes() {
         sum = sum.wrapping_add(u64::from(*byte));
     }
-    let _ = println!(rt; "{call}: {} bytes, sum {sum}", sheet.len());
+    print_field(rt, call, &": ");
+    print_field(rt, "", &sheet.len());
+    print_field(rt, " bytes, sum ", &sum);
+    end_line(rt);
 }

@@ -5,6 +5,7 @@ ghost use Rattle.std.specs.Prelude.{◌≡◌, IfOk, length};
 use super::memory::TRIES;
 use super::sheets::{LONG, filled};
 use crate::fault::TrialFault;
+use crate::fields::{end_line, print_field};
 use rb_history::Counts;
 use rb_lend::Sheet;
 use std::alloc::Global;
@@ -35,25 +36,23 @@ pub(crate) fn tell<R: Print, T: HasSnapshot>(rt: &R, call: &str, ring: &T) {
         consumer,
         counts,
     } = ring.snapshot();
-    let _ = print!(rt;
-        "{call}: chapters {chapters} entries {entries} producer {producer} consumer {consumer} "
-    );
+    print_field(rt, call, &":");
+    print_field(rt, " chapters ", &chapters);
+    print_field(rt, " entries ", &entries);
+    print_field(rt, " producer ", &producer);
+    print_field(rt, " consumer ", &consumer);
     tell_counts(rt, counts);
 }
 
 /// Prints counts, at the end of a line.
 pub(crate) fn tell_counts<R: Print>(rt: &R, counts: Counts) {
-    let Counts {
-        made,
-        refused,
-        consumed,
-        discarded,
-        waiting,
-        busy,
-    } = counts;
-    let _ = println!(rt;
-        "made {made} refused {refused} consumed {consumed} discarded {discarded} waiting {waiting} busy {busy}"
-    );
+    print_field(rt, " made ", &counts.made);
+    print_field(rt, " refused ", &counts.refused);
+    print_field(rt, " consumed ", &counts.consumed);
+    print_field(rt, " discarded ", &counts.discarded);
+    print_field(rt, " waiting ", &counts.waiting);
+    print_field(rt, " busy ", &counts.busy);
+    end_line(rt);
 }
 
 /// Returns a long sheet, allocated while a ring exists.

@@ -6,7 +6,7 @@ use Rattle.rb_chapter_ring.specs.declared.out_record.OutRecord.{OutRecord}
 use Rattle.rb_chapter_ring.specs.Hands.{HandBook, hand_at, out_record}
 use Rattle.rb_interp.specs.MachineState.{MachineState}
 use Rattle.rb_interp.specs.StoredMemory.{held_record}
-use Rattle.rb_world.specs.declared.world_record.WorldRecord.{WorldRecord}
+use Rattle.rb_chapter_ring.specs.declared.ring_record.RingRecord.{RingRecord}
 use Rattle.rb_world.specs.WorldValue.{KeptRing, WorldValue, no_kept_ring, ring_at, whole_world, world_ring}
 use Rattle.rb_world.specs.inner.FittingWorlds.{IsSoundWorld}
 
@@ -17,7 +17,7 @@ pub record Mark : Type 0 where
   pub hand : ℕ
   pub out : OutRecord
 
-abbrev pub mark_of : WorldRecord → Mark
+abbrev pub mark_of : RingRecord → Mark
 mark_of x = record {
   ring = x.ring;
   worker = x.reservation.granted.worker;
@@ -36,21 +36,21 @@ abbrev pub IsOutIn : List HandBook → Mark → Type 0
 IsOutIn books m = hand_at (slice_index_or books m.ring []) m.worker m.hand ≡ Some m.out
 
 -- every record that is held satisfies P
-abbrev pub AllHeld : (Mark → Type 0) → List (ℕ × WorldRecord) → Type 0
-AllHeld P records = (id : ℕ) (x : WorldRecord) → held_record id records ≡ Some x → P (mark_of x)
+abbrev pub AllHeld : (Mark → Type 0) → List (ℕ × RingRecord) → Type 0
+AllHeld P records = (id : ℕ) (x : RingRecord) → held_record id records ≡ Some x → P (mark_of x)
 
-abbrev pub AreInHand : List HandBook → List (ℕ × WorldRecord) → Type 0
+abbrev pub AreInHand : List HandBook → List (ℕ × RingRecord) → Type 0
 AreInHand books records = AllHeld (IsOutIn books) records
 
 -- the record was held before
-abbrev pub WasHeld : List (ℕ × WorldRecord) → Mark → Type 0
-WasHeld records m = (id : ℕ) × (x : WorldRecord) × (held_record id records ≡ Some x) × (mark_of x ≡ m)
+abbrev pub WasHeld : List (ℕ × RingRecord) → Mark → Type 0
+WasHeld records m = (id : ℕ) × (x : RingRecord) × (held_record id records ≡ Some x) × (mark_of x ≡ m)
 
 -- every record that is now held was held before, or is out at the ring with this number
-abbrev pub HoldsOldOrOut : ℕ → HandBook → List (ℕ × WorldRecord) → List (ℕ × WorldRecord) → Type 0
+abbrev pub HoldsOldOrOut : ℕ → HandBook → List (ℕ × RingRecord) → List (ℕ × RingRecord) → Type 0
 HoldsOldOrOut r book old new = AllHeld (λ m. WasHeld old m ⊎ ((m.ring ≡ r) × (hand_at book m.worker m.hand ≡ Some m.out))) new
 
-abbrev pub HoldsEachOldOrOut : List HandBook → List (ℕ × WorldRecord) → List (ℕ × WorldRecord) → Type 0
+abbrev pub HoldsEachOldOrOut : List HandBook → List (ℕ × RingRecord) → List (ℕ × RingRecord) → Type 0
 HoldsEachOldOrOut books old new = AllHeld (λ m. WasHeld old m ⊎ IsOutIn books m) new
 
 -- ---- what a turn leaves in hands
@@ -72,7 +72,7 @@ KeepsEachInHand old new = (r : ℕ) → r < length new → KeepsInHand (slice_in
 
 -- the records of every worker are out in its hands
 abbrev pub AllInHand : WorldValue → Type 0
-AllInHand v = (w : ℕ) (m : MachineState WorldRecord) → w < length v.machines → m ≡ slice_index_or v.machines w m → AreInHand (books_of v.rings) m.records
+AllInHand v = (w : ℕ) (m : MachineState RingRecord) → w < length v.machines → m ≡ slice_index_or v.machines w m → AreInHand (books_of v.rings) m.records
 
 -- every ring's tag is its number
 abbrev pub AreTagged : WorldValue → Type 0

@@ -14,7 +14,7 @@ use Rattle.rb_world.specs.CallsInWorld.{RecordOutcome, WorkerReserves, WorkerOut
 use Rattle.rb_world.specs.Turns.{TurnEvent, Took, NoMemory, GivingBack, worker_after, taken_by}
 use Rattle.rb_world.specs.declared.turn_done.TurnDone.{TurnDone}
 use Rattle.rb_world.specs.declared.turn_done.TurnDone.TheVariants as turn
-use Rattle.rb_world.specs.declared.world_record.WorldRecord.{WorldRecord}
+use Rattle.rb_chapter_ring.specs.declared.ring_record.RingRecord.{RingRecord}
 use Rattle.rb_world.specs.WorldValue.{KeptRing, held_by, worker_of}
 use Rattle.rb_world.specs.TurnsDone.{TellsEvent, IsWholeTurn, HandsChapterOut}
 
@@ -40,28 +40,28 @@ KeepsChapter old done new = ⊥
 -- ---- a worker's turn
 
 -- a machine's turn is the worker's turn, in any list of machines in which it has that worker's index
-abbrev pub IsWorkerTurn : ℕ → MachineState WorldRecord → List WorldRing → TurnDone → MachineState WorldRecord → List WorldRing → Type 0
+abbrev pub IsWorkerTurn : ℕ → MachineState RingRecord → List WorldRing → TurnDone → MachineState RingRecord → List WorldRing → Type 0
 IsWorkerTurn w old rings done new rings' =
-    (machines : List (MachineState WorldRecord)) → w < length machines → old ≡ slice_index_or machines w old
+    (machines : List (MachineState RingRecord)) → w < length machines → old ≡ slice_index_or machines w old
     → IsWholeTurn (Worker w) (record { rings = rings; machines = machines }) done (record { rings = rings'; machines = slice_set machines w new })
 
 -- a waiting machine got an answer of the right kind, continues, and holds these records
-abbrev pub GoesOnWith : PendingCall → HelperAnswer → HeldRecords → MachineState WorldRecord → MachineState WorldRecord → Type 0
+abbrev pub GoesOnWith : PendingCall → HelperAnswer → HeldRecords → MachineState RingRecord → MachineState RingRecord → Type 0
 GoesOnWith kind answer held old new = worker_of new ≡ worker_after (resume kind answer old.state) (record (worker_of old) { held = held; status = Running })
 
-abbrev pub AnswersReserve : (w r len flags : ℕ) → MachineState WorldRecord → WorldRing → MachineState WorldRecord → WorldRing → Type 0
+abbrev pub AnswersReserve : (w r len flags : ℕ) → MachineState RingRecord → WorldRing → MachineState RingRecord → WorldRing → Type 0
 AnswersReserve w r len flags m s m' s' =
     (outcome : RecordOutcome) × WorkerReserves w len flags outcome s s'
     × GoesOnWith (asked.Reserve len) (answer_to_reserve outcome) (held_after_reserve m.state.unit r outcome (held_by m)) m m'
 
-abbrev pub AnswersOutput : (w flags : ℕ) → MachineState WorldRecord → WorldRing → MachineState WorldRecord → WorldRing → Type 0
+abbrev pub AnswersOutput : (w flags : ℕ) → MachineState RingRecord → WorldRing → MachineState RingRecord → WorldRing → Type 0
 AnswersOutput w flags m s m' s' =
     (bytes : List ℕ) → m.output ≡ Some bytes
     → (outcome : RecordOutcome) × WorkerOutputs w bytes flags outcome s s' × GoesOnWith asked.Output (answer_to_output outcome) (held_by m) m m'
 
 -- a record was submitted or discarded, and the ring took it
-abbrev pub AnswersGivenBack : GivingBack → WorldRecord → MachineState WorldRecord → WorldRing → MachineState WorldRecord → WorldRing → Type 0
+abbrev pub AnswersGivenBack : GivingBack → RingRecord → MachineState RingRecord → WorldRing → MachineState RingRecord → WorldRing → Type 0
 AnswersGivenBack gives owned m s m' s' = gives owned.reservation.granted Taken s s' × GoesOnWith asked.GiveBack Taken (held_by m) m m'
 
-abbrev pub AnswersQuery : ℕ → MachineState WorldRecord → WorldRing → MachineState WorldRecord → Type 0
+abbrev pub AnswersQuery : ℕ → MachineState RingRecord → WorldRing → MachineState RingRecord → Type 0
 AnswersQuery what m s m' = GoesOnWith asked.Query (Told (query_answer s.ring.setup s.ring.history what)) (held_by m) m m'

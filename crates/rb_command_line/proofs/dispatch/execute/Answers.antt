@@ -8,4 +8,4 @@ pub returns-in-Stream-clause-carried_out : goal.returns-in-Stream-clause-carried
 returns-in-Stream-clause-carried_out g c = λ zero. executes_stream _ _ c.args.asked.now _ _ c.in-Stream.is (c.carry_out_stream.ensures.streamed zero)
 
 pub returns-in-Follow-clause-carried_out : goal.returns-in-Follow-clause-carried_out
-returns-in-Follow-clause-carried_out g c = λ zero. executes_follow _ _ c.args.asked.now _ _ c.in-Follow.is
+returns-in-Follow-clause-carried_out g c = λ zero. executes_follow _ _ c.args.asked.now _ _ c.in-Follow.is (c.carry_out_follow.ensures.printed zero)

@@ -6,13 +6,13 @@ use Rattle.rb_command_line.proofs.execution.answer.Goals as goal
 pub returns-in_ok-ends-in-Feed : goal.returns-in_ok-ends-in-Feed
 returns-in_ok-ends-in-Feed g c = record {
   ended = feed_ends g.row.F.Denot g.F.Write.contents c.args.asked.now.request _ c.in-Feed.size c.in-Feed.start c.in-Feed.retries _ c.in_ok-ends-in-Feed.ends c.in-Feed.is c.in_ok-ends-in-Feed.ensures.bounds
-      c.in_ok-ends-in-Feed.ensures.answer refl;
+      c.in_ok-ends-in-Feed.ensures.fed refl;
 }
 
 pub returns-in_ok-tape_metered-in-Tape : goal.returns-in_ok-tape_metered-in-Tape
 returns-in_ok-tape_metered-in-Tape g c = record {
   ended = tape_ends g.row.F.Denot g.F.Write.contents c.args.asked.now.request _ c.in-Tape.size c.in-Tape.start c.in-Tape.form c.in-Tape.is c.in_ok-tape_metered-in-Tape.ensures.bounds
-      c.in_ok-tape_metered-in-Tape.ensures.whole;
+      c.in_ok-tape_metered-in-Tape.ensures.printed;
 }
 
 pub returns-in_ok-check-in-Check : goal.returns-in_ok-check-in-Check

@@ -9,7 +9,7 @@ returns-in-Err-Memory-clause-told g c = for-every _ (λ text. (line : ℕ) → I
 
 pub returns-in-Err-Memory-clause-broken_off : goal.returns-in-Err-Memory-clause-broken_off
 returns-in-Err-Memory-clause-broken_off g c =
-    for-every _ (λ text. err Memory ≡ err Memory → BreaksOffSim c.args.draw text (g.W.Write.contents c.args.out.now) (g.W.Write.contents c.args.out.now)) (λ text is. inl (keeps-all (g.W.Write.contents c.args.out.now)))
+    for-every _ (λ text. err Memory ≡ err Memory → BreaksOffSim c.args.form c.args.draw text (g.W.Write.contents c.args.out.now) (g.W.Write.contents c.args.out.now)) (λ text is. inl (keeps-all (g.W.Write.contents c.args.out.now)))
 
 pub returns-clause-told : goal.returns-clause-told
 returns-clause-told g c =

@@ -5,5 +5,5 @@ use Rattle.rb_script.proofs.simulation.push_drawings.Given as goal
 abbrev pub invariant-loop-r : goal.invariant-loop-r
 invariant-loop-r l = record {
   there : l.r ≤ length l.world.rings;
-  lines : l.text.items ≡ l.initial.text.items ++ lines_below (drawing_of l.world) l.r;
+  lines : l.text.items ≡ l.initial.text.items ++ lines_below (drawing_of l.form l.world) l.r;
 }

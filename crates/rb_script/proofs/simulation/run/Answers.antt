@@ -6,7 +6,7 @@ use Rattle.rb_script.proofs.TurnLines.{writes-none, writes-more, line-joined}
 use Rattle.rb_script.proofs.simulation.run.Goals as goal
 
 pub loop-actor-init : goal.loop-actor-init
-loop-actor-init g c = record { written = writes-none c.args.draw c.args.world.now c.args.text.now.items; workers = refl; rings = refl }
+loop-actor-init g c = record { written = writes-none c.args.form c.args.draw c.args.world.now c.args.text.now.items; workers = refl; rings = refl }
 
 pub turn-done-requires : goal.turn-done-requires
 turn-done-requires g c = record {
@@ -26,7 +26,7 @@ loop-actor-preserved g c =
     let more : c.extend_from_slice.new.self.items ≡ c.loop-actor.text.items ++ c.push_drawn_turn.new.text.items = search rules in
     record {
       written =
-          writes-more c.args.draw c.args.actors.now c.loop-actor.actor-index _ c.args.world.now c.loop-actor.world c.turn-done.new.self c.args.text.now.items c.loop-actor.text.items c.extend_from_slice.new.self.items c.turn-done.result c.loop-actor-test.true
+          writes-more c.args.form c.args.draw c.args.actors.now c.loop-actor.actor-index _ c.args.world.now c.loop-actor.world c.turn-done.new.self c.args.text.now.items c.loop-actor.text.items c.extend_from_slice.new.self.items c.turn-done.result c.loop-actor-test.true
           c.loop-actor.invariant.written c.turn-done.ensures.turned c.turn-done.ensures.chapters c.turn-done.ensures.reasons (line-joined _ _ _ _ _ c.clear.ensures.items c.in-Ok.ensures.lines more);
       workers = c.turn-done.ensures.workers ∙ c.loop-actor.invariant.workers;
       rings = c.turn-done.ensures.rings ∙ c.loop-actor.invariant.rings;

@@ -1,4 +1,4 @@
-use Rattle.std.proofs.Common.{◌≡◌, [], length, take, sym, ap, ◌∙◌, subst, arith, take_all}
+use Rattle.std.proofs.Common.{◌≡◌, [], length, take, sym, ap, subst, arith, take_all}
 use Rattle.std.proofs.lemmas.List.{nil_from_length}
 use Rattle.std.proofs.lemmas.Result.{err_from_is_err_and}
 use Rattle.std.specs.Io.KnownBytes.{Appends, Consumes}
@@ -6,7 +6,7 @@ use Rattle.std.proofs.KnownBytes.{Consumes-nil, Keeps-refl}
 use Rattle.rb_tape.specs.TapeFront.{IsUndecided}
 use Rattle.rb_tape.specs.TapeReading.{Reading}
 use Rattle.rb_tape_commands.specs.inner.TapePrinting.{PrintsSoFar}
-use Rattle.rb_tape_commands.proofs.TapeReads.{nothing_yet, nothing_shown, more_at_hand, piece_more, piece_added, answers_read, answers_memory, answers_end, answers_gathered, answers_cut, went_on}
+use Rattle.rb_tape_commands.proofs.TapeReads.{nothing_yet, nothing_shown, more_at_hand, piece_more, piece_added, answers_read, answers_memory, answers_end, whole_end, answers_gathered, answers_cut, went_on}
 use Rattle.rb_tape_commands.proofs.tape_command.print_pieces.Goals as goal
 
 pub pieces-init : goal.pieces-init
@@ -30,6 +30,13 @@ returns-then-count-eq0-clause-answer g c =
     let held = g.R.Incoming.held c.await_more.new.input in
     let none : held ≡ [] = nil_from_length held (omega (arith, c.min-count.ensures, c.if-count-eq0.true, ap length c.at_hand.ensures.value)) in
     answers_end c.args.form c.args.feed.now.size c.args.feed.now.start c.requires.size _ _ _ _ _ c.pieces.feed c.end_of_input.result more (Consumes-nil _) (c.in-Ok.ensures.end none) c.pieces.invariant.undecided c.end_of_input.ensures.ends
+
+pub returns-then-count-eq0-clause-printed : goal.returns-then-count-eq0-clause-printed
+returns-then-count-eq0-clause-printed g c =
+    let more = more_at_hand c.args.form c.args.feed.now.size c.args.feed.now.start _ _ _ _ c.pieces.feed c.pieces.invariant.so_far _ _ c.await_more.ensures.read c.await_more.ensures.bytes in
+    let held = g.R.Incoming.held c.await_more.new.input in
+    let none : held ≡ [] = nil_from_length held (omega (arith, c.min-count.ensures, c.if-count-eq0.true, ap length c.at_hand.ensures.value)) in
+    whole_end c.args.form c.args.feed.now.size c.args.feed.now.start _ _ _ _ c.pieces.feed c.end_of_input.result more (c.in-Ok.ensures.end none) c.end_of_input.ensures.ends
 
 pub returns-then-is_err-clause-answer : goal.returns-then-is_err-clause-answer
 returns-then-is_err-clause-answer g c =

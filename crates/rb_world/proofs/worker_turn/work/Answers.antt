@@ -11,7 +11,7 @@ use Rattle.rb_interp.specs.declared.step.Step.TheVariants.{Call}
 use Rattle.rb_interp.specs.declared.step.Phase.TheVariants as phase
 use Rattle.rb_world.specs.CallsInWorld.{WorkerSubmits, WorkerDiscards}
 use Rattle.rb_world.specs.Turns.{submit_event, discard_event}
-use Rattle.rb_world.specs.declared.world_record.WorldRecord.{WorldRecord}
+use Rattle.rb_chapter_ring.specs.declared.ring_record.RingRecord.{RingRecord}
 use Rattle.rb_world.specs.declared.turn_done.TurnDone.TheVariants as turn
 use Rattle.rb_world.specs.RecordReasons.{ReservesOrHasReason, OutputsOrHasReason, hands_at}
 use Rattle.rb_world.specs.WorldValue.{place_of, worker_of, world_ring}
@@ -60,7 +60,7 @@ index_mut-requires c =
     let mid = c.step.new.self in
     let rings = c.args.rings.now.items in
     let ready : old.phase ≡ phase.Ready = sym c.phase.ensures ∙ c.in-Ready.is in
-    let st = subst (λ (q : request.Request WorldRecord). StepsTo (λ (x : WorldRecord). x.reservation.granted.bytes) (next_step c.args.machine.now.program.program c.args.machine.now.state) c.args.machine.now.records (Call q) c.step.new.self) c.in-Call-Reserve.field-0-is c.in-Call-Reserve.ensures.stepped in
+    let st = subst (λ (q : request.Request RingRecord). StepsTo (λ (x : RingRecord). x.reservation.granted.bytes) (next_step c.args.machine.now.program.program c.args.machine.now.state) c.args.machine.now.records (Call q) c.step.new.self) c.in-Call-Reserve.field-0-is c.in-Call-Reserve.ensures.stepped in
     let lawful = subst (IsLawful old.program) st.2 (lawful-of old st.0 mid.state ready c.facts.ensures st.1) in
     let known : c.in-Call-Reserve.ring < old.program.rings = lawful.0 in
     let there : old.program.rings ≤ length rings = c.requires.program in
@@ -73,7 +73,7 @@ index_mut-requires-in-Call-Output c =
     let mid = c.step.new.self in
     let rings = c.args.rings.now.items in
     let ready : old.phase ≡ phase.Ready = sym c.phase.ensures ∙ c.in-Ready.is in
-    let st = subst (λ (q : request.Request WorldRecord). StepsTo (λ (x : WorldRecord). x.reservation.granted.bytes) (next_step c.args.machine.now.program.program c.args.machine.now.state) c.args.machine.now.records (Call q) c.step.new.self) c.in-Call-Output.field-0-is c.in-Call-Output.ensures.stepped in
+    let st = subst (λ (q : request.Request RingRecord). StepsTo (λ (x : RingRecord). x.reservation.granted.bytes) (next_step c.args.machine.now.program.program c.args.machine.now.state) c.args.machine.now.records (Call q) c.step.new.self) c.in-Call-Output.field-0-is c.in-Call-Output.ensures.stepped in
     let lawful = subst (IsLawful old.program) st.2.2 (lawful-of old st.0 mid.state ready c.facts.ensures st.1) in
     let known : c.in-Call-Output.ring < old.program.rings = lawful in
     let there : old.program.rings ≤ length rings = c.requires.program in
@@ -86,7 +86,7 @@ index-requires c =
     let mid = c.step.new.self in
     let rings = c.args.rings.now.items in
     let ready : old.phase ≡ phase.Ready = sym c.phase.ensures ∙ c.in-Ready.is in
-    let st = subst (λ (q : request.Request WorldRecord). StepsTo (λ (x : WorldRecord). x.reservation.granted.bytes) (next_step c.args.machine.now.program.program c.args.machine.now.state) c.args.machine.now.records (Call q) c.step.new.self) c.in-Call-Query.field-0-is c.in-Call-Query.ensures.stepped in
+    let st = subst (λ (q : request.Request RingRecord). StepsTo (λ (x : RingRecord). x.reservation.granted.bytes) (next_step c.args.machine.now.program.program c.args.machine.now.state) c.args.machine.now.records (Call q) c.step.new.self) c.in-Call-Query.field-0-is c.in-Call-Query.ensures.stepped in
     let lawful = subst (IsLawful old.program) st.2 (lawful-of old st.0 mid.state ready c.facts.ensures st.1) in
     let known : c.in-Call-Query.ring < old.program.rings = lawful in
     let there : old.program.rings ≤ length rings = c.requires.program in
@@ -99,7 +99,7 @@ answer_reserve-requires-clause-worker c =
     let mid = c.step.new.self in
     let rings = c.args.rings.now.items in
     let ready : old.phase ≡ phase.Ready = sym c.phase.ensures ∙ c.in-Ready.is in
-    let st = subst (λ (q : request.Request WorldRecord). StepsTo (λ (x : WorldRecord). x.reservation.granted.bytes) (next_step c.args.machine.now.program.program c.args.machine.now.state) c.args.machine.now.records (Call q) c.step.new.self) c.in-Call-Reserve.field-0-is c.in-Call-Reserve.ensures.stepped in
+    let st = subst (λ (q : request.Request RingRecord). StepsTo (λ (x : RingRecord). x.reservation.granted.bytes) (next_step c.args.machine.now.program.program c.args.machine.now.state) c.args.machine.now.records (Call q) c.step.new.self) c.in-Call-Reserve.field-0-is c.in-Call-Reserve.ensures.stepped in
     let lawful = subst (IsLawful old.program) st.2 (lawful-of old st.0 mid.state ready c.facts.ensures st.1) in
     let known : c.in-Call-Reserve.ring < old.program.rings = lawful.0 in
     let there : old.program.rings ≤ length rings = c.requires.program in
@@ -112,7 +112,7 @@ answer_output-requires-clause-worker c =
     let mid = c.step.new.self in
     let rings = c.args.rings.now.items in
     let ready : old.phase ≡ phase.Ready = sym c.phase.ensures ∙ c.in-Ready.is in
-    let st = subst (λ (q : request.Request WorldRecord). StepsTo (λ (x : WorldRecord). x.reservation.granted.bytes) (next_step c.args.machine.now.program.program c.args.machine.now.state) c.args.machine.now.records (Call q) c.step.new.self) c.in-Call-Output.field-0-is c.in-Call-Output.ensures.stepped in
+    let st = subst (λ (q : request.Request RingRecord). StepsTo (λ (x : RingRecord). x.reservation.granted.bytes) (next_step c.args.machine.now.program.program c.args.machine.now.state) c.args.machine.now.records (Call q) c.step.new.self) c.in-Call-Output.field-0-is c.in-Call-Output.ensures.stepped in
     let lawful = subst (IsLawful old.program) st.2.2 (lawful-of old st.0 mid.state ready c.facts.ensures st.1) in
     let known : c.in-Call-Output.ring < old.program.rings = lawful in
     let there : old.program.rings ≤ length rings = c.requires.program in
@@ -125,7 +125,7 @@ returns-in-Call-Reserve-clause-turned c =
     let mid = c.step.new.self in
     let rings = c.args.rings.now.items in
     let ready : old.phase ≡ phase.Ready = sym c.phase.ensures ∙ c.in-Ready.is in
-    let st = subst (λ (q : request.Request WorldRecord). StepsTo (λ (x : WorldRecord). x.reservation.granted.bytes) (next_step c.args.machine.now.program.program c.args.machine.now.state) c.args.machine.now.records (Call q) c.step.new.self) c.in-Call-Reserve.field-0-is c.in-Call-Reserve.ensures.stepped in
+    let st = subst (λ (q : request.Request RingRecord). StepsTo (λ (x : RingRecord). x.reservation.granted.bytes) (next_step c.args.machine.now.program.program c.args.machine.now.state) c.args.machine.now.records (Call q) c.step.new.self) c.in-Call-Reserve.field-0-is c.in-Call-Reserve.ensures.stepped in
     let lawful = subst (IsLawful old.program) st.2 (lawful-of old st.0 mid.state ready c.facts.ensures st.1) in
     let known : c.in-Call-Reserve.ring < old.program.rings = lawful.0 in
     let there : old.program.rings ≤ length rings = c.requires.program in
@@ -140,7 +140,7 @@ returns-in-Call-Reserve-clause-own c =
     let mid = c.step.new.self in
     let rings = c.args.rings.now.items in
     let ready : old.phase ≡ phase.Ready = sym c.phase.ensures ∙ c.in-Ready.is in
-    let st = subst (λ (q : request.Request WorldRecord). StepsTo (λ (x : WorldRecord). x.reservation.granted.bytes) (next_step c.args.machine.now.program.program c.args.machine.now.state) c.args.machine.now.records (Call q) c.step.new.self) c.in-Call-Reserve.field-0-is c.in-Call-Reserve.ensures.stepped in
+    let st = subst (λ (q : request.Request RingRecord). StepsTo (λ (x : RingRecord). x.reservation.granted.bytes) (next_step c.args.machine.now.program.program c.args.machine.now.state) c.args.machine.now.records (Call q) c.step.new.self) c.in-Call-Reserve.field-0-is c.in-Call-Reserve.ensures.stepped in
     let lawful = subst (IsLawful old.program) st.2 (lawful-of old st.0 mid.state ready c.facts.ensures st.1) in
     let known : c.in-Call-Reserve.ring < old.program.rings = lawful.0 in
     let there : old.program.rings ≤ length rings = c.requires.program in
@@ -158,7 +158,7 @@ returns-in-Call-Output-clause-turned c =
     let mid = c.step.new.self in
     let rings = c.args.rings.now.items in
     let ready : old.phase ≡ phase.Ready = sym c.phase.ensures ∙ c.in-Ready.is in
-    let st = subst (λ (q : request.Request WorldRecord). StepsTo (λ (x : WorldRecord). x.reservation.granted.bytes) (next_step c.args.machine.now.program.program c.args.machine.now.state) c.args.machine.now.records (Call q) c.step.new.self) c.in-Call-Output.field-0-is c.in-Call-Output.ensures.stepped in
+    let st = subst (λ (q : request.Request RingRecord). StepsTo (λ (x : RingRecord). x.reservation.granted.bytes) (next_step c.args.machine.now.program.program c.args.machine.now.state) c.args.machine.now.records (Call q) c.step.new.self) c.in-Call-Output.field-0-is c.in-Call-Output.ensures.stepped in
     let lawful = subst (IsLawful old.program) st.2.2 (lawful-of old st.0 mid.state ready c.facts.ensures st.1) in
     let known : c.in-Call-Output.ring < old.program.rings = lawful in
     let there : old.program.rings ≤ length rings = c.requires.program in
@@ -176,7 +176,7 @@ returns-in-Call-Query-clause-turned c =
     let mid = c.step.new.self in
     let rings = c.args.rings.now.items in
     let ready : old.phase ≡ phase.Ready = sym c.phase.ensures ∙ c.in-Ready.is in
-    let st = subst (λ (q : request.Request WorldRecord). StepsTo (λ (x : WorldRecord). x.reservation.granted.bytes) (next_step c.args.machine.now.program.program c.args.machine.now.state) c.args.machine.now.records (Call q) c.step.new.self) c.in-Call-Query.field-0-is c.in-Call-Query.ensures.stepped in
+    let st = subst (λ (q : request.Request RingRecord). StepsTo (λ (x : RingRecord). x.reservation.granted.bytes) (next_step c.args.machine.now.program.program c.args.machine.now.state) c.args.machine.now.records (Call q) c.step.new.self) c.in-Call-Query.field-0-is c.in-Call-Query.ensures.stepped in
     let lawful = subst (IsLawful old.program) st.2 (lawful-of old st.0 mid.state ready c.facts.ensures st.1) in
     let known : c.in-Call-Query.ring < old.program.rings = lawful in
     let enough : old.program.rings ≤ length rings = c.requires.program in
@@ -196,7 +196,7 @@ returns-in-Call-Submit-clause-turned c =
     let mid = c.step.new.self in
     let rings = c.args.rings.now.items in
     let ready : old.phase ≡ phase.Ready = sym c.phase.ensures ∙ c.in-Ready.is in
-    let st = subst (λ (q : request.Request WorldRecord). StepsTo (λ (x : WorldRecord). x.reservation.granted.bytes) (next_step c.args.machine.now.program.program c.args.machine.now.state) c.args.machine.now.records (Call q) c.step.new.self) c.in-Call-Submit.field-0-is c.in-Call-Submit.ensures.stepped in
+    let st = subst (λ (q : request.Request RingRecord). StepsTo (λ (x : RingRecord). x.reservation.granted.bytes) (next_step c.args.machine.now.program.program c.args.machine.now.state) c.args.machine.now.records (Call q) c.step.new.self) c.in-Call-Submit.field-0-is c.in-Call-Submit.ensures.stepped in
     let owned = c.in-Call-Submit.owned in
     let flags = c.in-Call-Submit.flags in
     let shows = st.2 in
@@ -210,7 +210,7 @@ pub returns-in-Call-Submit-clause-own : goal.returns-in-Call-Submit-clause-own
 returns-in-Call-Submit-clause-own c =
     let old = c.args.machine.now in
     let rings = c.args.rings.now.items in
-    let st = subst (λ (q : request.Request WorldRecord). StepsTo (λ (x : WorldRecord). x.reservation.granted.bytes) (next_step c.args.machine.now.program.program c.args.machine.now.state) c.args.machine.now.records (Call q) c.step.new.self) c.in-Call-Submit.field-0-is c.in-Call-Submit.ensures.stepped in
+    let st = subst (λ (q : request.Request RingRecord). StepsTo (λ (x : RingRecord). x.reservation.granted.bytes) (next_step c.args.machine.now.program.program c.args.machine.now.state) c.args.machine.now.records (Call q) c.step.new.self) c.in-Call-Submit.field-0-is c.in-Call-Submit.ensures.stepped in
     let shows = st.2 in
     subst (λ n. AreOwn c.args.w n c.answer_given_back.new.machine.records) (sym (set-length rings c.in-Call-Submit.owned.ring c.answer_given_back.new.self))
     (subst (AreOwn c.args.w (length rings)) (sym (c.answer_given_back.ensures.records ∙ (st.4 ∙ ap (λ call. left_by call old.records) shows.2))) (all-given (λ q. (q.ring < length rings) × (q.worker ≡ c.args.w)) shows.0 old.records c.requires.own))
@@ -224,7 +224,7 @@ returns-in-Call-Discard-clause-turned c =
     let mid = c.step.new.self in
     let rings = c.args.rings.now.items in
     let ready : old.phase ≡ phase.Ready = sym c.phase.ensures ∙ c.in-Ready.is in
-    let st = subst (λ (q : request.Request WorldRecord). StepsTo (λ (x : WorldRecord). x.reservation.granted.bytes) (next_step c.args.machine.now.program.program c.args.machine.now.state) c.args.machine.now.records (Call q) c.step.new.self) c.in-Call-Discard.field-0-is c.in-Call-Discard.ensures.stepped in
+    let st = subst (λ (q : request.Request RingRecord). StepsTo (λ (x : RingRecord). x.reservation.granted.bytes) (next_step c.args.machine.now.program.program c.args.machine.now.state) c.args.machine.now.records (Call q) c.step.new.self) c.in-Call-Discard.field-0-is c.in-Call-Discard.ensures.stepped in
     let owned = c.in-Call-Discard.owned in
     let flags = c.in-Call-Discard.flags in
     let shows = st.2 in
@@ -238,7 +238,7 @@ pub returns-in-Call-Discard-clause-own : goal.returns-in-Call-Discard-clause-own
 returns-in-Call-Discard-clause-own c =
     let old = c.args.machine.now in
     let rings = c.args.rings.now.items in
-    let st = subst (λ (q : request.Request WorldRecord). StepsTo (λ (x : WorldRecord). x.reservation.granted.bytes) (next_step c.args.machine.now.program.program c.args.machine.now.state) c.args.machine.now.records (Call q) c.step.new.self) c.in-Call-Discard.field-0-is c.in-Call-Discard.ensures.stepped in
+    let st = subst (λ (q : request.Request RingRecord). StepsTo (λ (x : RingRecord). x.reservation.granted.bytes) (next_step c.args.machine.now.program.program c.args.machine.now.state) c.args.machine.now.records (Call q) c.step.new.self) c.in-Call-Discard.field-0-is c.in-Call-Discard.ensures.stepped in
     let shows = st.2 in
     subst (λ n. AreOwn c.args.w n c.answer_given_back-in-Call-Discard.new.machine.records) (sym (set-length rings c.in-Call-Discard.owned.ring c.answer_given_back-in-Call-Discard.new.self))
     (subst (AreOwn c.args.w (length rings)) (sym (c.answer_given_back-in-Call-Discard.ensures.records ∙ (st.4 ∙ ap (λ call. left_by call old.records) shows.2))) (all-given (λ q. (q.ring < length rings) × (q.worker ≡ c.args.w)) shows.0 old.records c.requires.own))
@@ -249,7 +249,7 @@ returns-in-Call-Discard-clause-chapters c = map-set-same chapters_of c.args.ring
 pub answer_given_back-requires-clause-out : goal.answer_given_back-requires-clause-out
 answer_given_back-requires-clause-out c =
     let rings = c.args.rings.now.items in
-    let st = subst (λ (q : request.Request WorldRecord). StepsTo (λ (x : WorldRecord). x.reservation.granted.bytes) (next_step c.args.machine.now.program.program c.args.machine.now.state) c.args.machine.now.records (Call q) c.step.new.self) c.in-Call-Submit.field-0-is c.in-Call-Submit.ensures.stepped in
+    let st = subst (λ (q : request.Request RingRecord). StepsTo (λ (x : RingRecord). x.reservation.granted.bytes) (next_step c.args.machine.now.program.program c.args.machine.now.state) c.args.machine.now.records (Call q) c.step.new.self) c.in-Call-Submit.field-0-is c.in-Call-Submit.ensures.stepped in
     let owned = c.in-Call-Submit.owned in
     let g = owned.reservation.granted in
     let s = c.index_mut-in-Call-Submit.result.now in
@@ -260,7 +260,7 @@ answer_given_back-requires-clause-out c =
 pub answer_given_back-requires-in-Call-Discard-clause-out : goal.answer_given_back-requires-in-Call-Discard-clause-out
 answer_given_back-requires-in-Call-Discard-clause-out c =
     let rings = c.args.rings.now.items in
-    let st = subst (λ (q : request.Request WorldRecord). StepsTo (λ (x : WorldRecord). x.reservation.granted.bytes) (next_step c.args.machine.now.program.program c.args.machine.now.state) c.args.machine.now.records (Call q) c.step.new.self) c.in-Call-Discard.field-0-is c.in-Call-Discard.ensures.stepped in
+    let st = subst (λ (q : request.Request RingRecord). StepsTo (λ (x : RingRecord). x.reservation.granted.bytes) (next_step c.args.machine.now.program.program c.args.machine.now.state) c.args.machine.now.records (Call q) c.step.new.self) c.in-Call-Discard.field-0-is c.in-Call-Discard.ensures.stepped in
     let owned = c.in-Call-Discard.owned in
     let g = owned.reservation.granted in
     let s = c.index_mut-in-Call-Discard.result.now in
@@ -282,7 +282,7 @@ returns-in-Call-Reserve-clause-held c =
     let r = c.in-Call-Reserve.ring in
     let s = c.index_mut.result.now in
     let ready : old.phase ≡ phase.Ready = sym c.phase.ensures ∙ c.in-Ready.is in
-    let st = subst (λ (q : request.Request WorldRecord). StepsTo (λ (x : WorldRecord). x.reservation.granted.bytes) (next_step c.args.machine.now.program.program c.args.machine.now.state) c.args.machine.now.records (Call q) c.step.new.self) c.in-Call-Reserve.field-0-is c.in-Call-Reserve.ensures.stepped in
+    let st = subst (λ (q : request.Request RingRecord). StepsTo (λ (x : RingRecord). x.reservation.granted.bytes) (next_step c.args.machine.now.program.program c.args.machine.now.state) c.args.machine.now.records (Call q) c.step.new.self) c.in-Call-Reserve.field-0-is c.in-Call-Reserve.ensures.stepped in
     let lawful = subst (IsLawful old.program) st.2 (lawful-of old st.0 mid.state ready c.facts.ensures st.1) in
     let known : r < old.program.rings = lawful.0 in
     let enough : old.program.rings ≤ length rings = c.requires.program in
@@ -300,7 +300,7 @@ returns-in-Call-Reserve-clause-hands c =
     let r = c.in-Call-Reserve.ring in
     let s = c.index_mut.result.now in
     let ready : old.phase ≡ phase.Ready = sym c.phase.ensures ∙ c.in-Ready.is in
-    let st = subst (λ (q : request.Request WorldRecord). StepsTo (λ (x : WorldRecord). x.reservation.granted.bytes) (next_step c.args.machine.now.program.program c.args.machine.now.state) c.args.machine.now.records (Call q) c.step.new.self) c.in-Call-Reserve.field-0-is c.in-Call-Reserve.ensures.stepped in
+    let st = subst (λ (q : request.Request RingRecord). StepsTo (λ (x : RingRecord). x.reservation.granted.bytes) (next_step c.args.machine.now.program.program c.args.machine.now.state) c.args.machine.now.records (Call q) c.step.new.self) c.in-Call-Reserve.field-0-is c.in-Call-Reserve.ensures.stepped in
     let lawful = subst (IsLawful old.program) st.2 (lawful-of old st.0 mid.state ready c.facts.ensures st.1) in
     let known : r < old.program.rings = lawful.0 in
     let enough : old.program.rings ≤ length rings = c.requires.program in
@@ -312,7 +312,7 @@ pub returns-in-Call-Output-clause-held : goal.returns-in-Call-Output-clause-held
 returns-in-Call-Output-clause-held c =
     let old = c.args.machine.now in
     let rings = c.args.rings.now.items in
-    let st = subst (λ (q : request.Request WorldRecord). StepsTo (λ (x : WorldRecord). x.reservation.granted.bytes) (next_step c.args.machine.now.program.program c.args.machine.now.state) c.args.machine.now.records (Call q) c.step.new.self) c.in-Call-Output.field-0-is c.in-Call-Output.ensures.stepped in
+    let st = subst (λ (q : request.Request RingRecord). StepsTo (λ (x : RingRecord). x.reservation.granted.bytes) (next_step c.args.machine.now.program.program c.args.machine.now.state) c.args.machine.now.records (Call q) c.step.new.self) c.in-Call-Output.field-0-is c.in-Call-Output.ensures.stepped in
     let records : c.answer_output.new.machine.records ≡ old.records = c.answer_output.ensures.records ∙ (st.4 ∙ ap (λ call. left_by call old.records) st.2.2) in
     subst (HoldsEachOldOrOut (books_of (set rings c.in-Call-Output.ring c.answer_output.new.self)) old.records) (sym records) (λ id x e. inl (held-were old.records id x e))
 
@@ -324,7 +324,7 @@ returns-in-Call-Output-clause-hands c =
     let r = c.in-Call-Output.ring in
     let s = c.index_mut-in-Call-Output.result.now in
     let ready : old.phase ≡ phase.Ready = sym c.phase.ensures ∙ c.in-Ready.is in
-    let st = subst (λ (q : request.Request WorldRecord). StepsTo (λ (x : WorldRecord). x.reservation.granted.bytes) (next_step c.args.machine.now.program.program c.args.machine.now.state) c.args.machine.now.records (Call q) c.step.new.self) c.in-Call-Output.field-0-is c.in-Call-Output.ensures.stepped in
+    let st = subst (λ (q : request.Request RingRecord). StepsTo (λ (x : RingRecord). x.reservation.granted.bytes) (next_step c.args.machine.now.program.program c.args.machine.now.state) c.args.machine.now.records (Call q) c.step.new.self) c.in-Call-Output.field-0-is c.in-Call-Output.ensures.stepped in
     let lawful = subst (IsLawful old.program) st.2.2 (lawful-of old st.0 mid.state ready c.facts.ensures st.1) in
     let known : r < old.program.rings = lawful in
     let enough : old.program.rings ≤ length rings = c.requires.program in
@@ -336,7 +336,7 @@ pub returns-in-Call-Query-clause-held : goal.returns-in-Call-Query-clause-held
 returns-in-Call-Query-clause-held c =
     let old = c.args.machine.now in
     let rings = c.args.rings.now.items in
-    let st = subst (λ (q : request.Request WorldRecord). StepsTo (λ (x : WorldRecord). x.reservation.granted.bytes) (next_step c.args.machine.now.program.program c.args.machine.now.state) c.args.machine.now.records (Call q) c.step.new.self) c.in-Call-Query.field-0-is c.in-Call-Query.ensures.stepped in
+    let st = subst (λ (q : request.Request RingRecord). StepsTo (λ (x : RingRecord). x.reservation.granted.bytes) (next_step c.args.machine.now.program.program c.args.machine.now.state) c.args.machine.now.records (Call q) c.step.new.self) c.in-Call-Query.field-0-is c.in-Call-Query.ensures.stepped in
     let records : c.answer_query.new.machine.records ≡ old.records = c.answer_query.ensures.records ∙ (st.4 ∙ ap (λ call. left_by call old.records) st.2) in
     subst (HoldsEachOldOrOut (books_of rings) old.records) (sym records) (λ id x e. inl (held-were old.records id x e))
 
@@ -344,7 +344,7 @@ pub returns-in-Call-Submit-clause-held : goal.returns-in-Call-Submit-clause-held
 returns-in-Call-Submit-clause-held c =
     let old = c.args.machine.now in
     let rings = c.args.rings.now.items in
-    let st = subst (λ (q : request.Request WorldRecord). StepsTo (λ (x : WorldRecord). x.reservation.granted.bytes) (next_step c.args.machine.now.program.program c.args.machine.now.state) c.args.machine.now.records (Call q) c.step.new.self) c.in-Call-Submit.field-0-is c.in-Call-Submit.ensures.stepped in
+    let st = subst (λ (q : request.Request RingRecord). StepsTo (λ (x : RingRecord). x.reservation.granted.bytes) (next_step c.args.machine.now.program.program c.args.machine.now.state) c.args.machine.now.records (Call q) c.step.new.self) c.in-Call-Submit.field-0-is c.in-Call-Submit.ensures.stepped in
     let books = books_of (set rings c.in-Call-Submit.owned.ring c.answer_given_back.new.self) in
     let records = c.answer_given_back.ensures.records ∙ (st.4 ∙ ap (λ call. left_by call old.records) st.2.2) in
     subst (HoldsEachOldOrOut books old.records) (sym records) (all-given (λ q. WasHeld old.records q ⊎ IsOutIn books q) st.2.0 old.records (λ id x e. inl (held-were old.records id x e)))
@@ -352,7 +352,7 @@ returns-in-Call-Submit-clause-held c =
 pub returns-in-Call-Submit-clause-hands : goal.returns-in-Call-Submit-clause-hands
 returns-in-Call-Submit-clause-hands c =
     let rings = c.args.rings.now.items in
-    let st = subst (λ (q : request.Request WorldRecord). StepsTo (λ (x : WorldRecord). x.reservation.granted.bytes) (next_step c.args.machine.now.program.program c.args.machine.now.state) c.args.machine.now.records (Call q) c.step.new.self) c.in-Call-Submit.field-0-is c.in-Call-Submit.ensures.stepped in
+    let st = subst (λ (q : request.Request RingRecord). StepsTo (λ (x : RingRecord). x.reservation.granted.bytes) (next_step c.args.machine.now.program.program c.args.machine.now.state) c.args.machine.now.records (Call q) c.step.new.self) c.in-Call-Submit.field-0-is c.in-Call-Submit.ensures.stepped in
     let owned = c.in-Call-Submit.owned in
     let s = c.index_mut-in-Call-Submit.result.now in
     let mine = c.requires.own st.2.0 owned st.2.1 in
@@ -362,7 +362,7 @@ pub returns-in-Call-Discard-clause-held : goal.returns-in-Call-Discard-clause-he
 returns-in-Call-Discard-clause-held c =
     let old = c.args.machine.now in
     let rings = c.args.rings.now.items in
-    let st = subst (λ (q : request.Request WorldRecord). StepsTo (λ (x : WorldRecord). x.reservation.granted.bytes) (next_step c.args.machine.now.program.program c.args.machine.now.state) c.args.machine.now.records (Call q) c.step.new.self) c.in-Call-Discard.field-0-is c.in-Call-Discard.ensures.stepped in
+    let st = subst (λ (q : request.Request RingRecord). StepsTo (λ (x : RingRecord). x.reservation.granted.bytes) (next_step c.args.machine.now.program.program c.args.machine.now.state) c.args.machine.now.records (Call q) c.step.new.self) c.in-Call-Discard.field-0-is c.in-Call-Discard.ensures.stepped in
     let books = books_of (set rings c.in-Call-Discard.owned.ring c.answer_given_back-in-Call-Discard.new.self) in
     let records = c.answer_given_back-in-Call-Discard.ensures.records ∙ (st.4 ∙ ap (λ call. left_by call old.records) st.2.2) in
     subst (HoldsEachOldOrOut books old.records) (sym records) (all-given (λ q. WasHeld old.records q ⊎ IsOutIn books q) st.2.0 old.records (λ id x e. inl (held-were old.records id x e)))
@@ -370,7 +370,7 @@ returns-in-Call-Discard-clause-held c =
 pub returns-in-Call-Discard-clause-hands : goal.returns-in-Call-Discard-clause-hands
 returns-in-Call-Discard-clause-hands c =
     let rings = c.args.rings.now.items in
-    let st = subst (λ (q : request.Request WorldRecord). StepsTo (λ (x : WorldRecord). x.reservation.granted.bytes) (next_step c.args.machine.now.program.program c.args.machine.now.state) c.args.machine.now.records (Call q) c.step.new.self) c.in-Call-Discard.field-0-is c.in-Call-Discard.ensures.stepped in
+    let st = subst (λ (q : request.Request RingRecord). StepsTo (λ (x : RingRecord). x.reservation.granted.bytes) (next_step c.args.machine.now.program.program c.args.machine.now.state) c.args.machine.now.records (Call q) c.step.new.self) c.in-Call-Discard.field-0-is c.in-Call-Discard.ensures.stepped in
     let owned = c.in-Call-Discard.owned in
     let s = c.index_mut-in-Call-Discard.result.now in
     let mine = c.requires.own st.2.0 owned st.2.1 in
@@ -397,7 +397,7 @@ returns-in-Call-Reserve-clause-reasons c =
     let mid = c.step.new.self in
     let rings = c.args.rings.now.items in
     let ready : old.phase ≡ phase.Ready = sym c.phase.ensures ∙ c.in-Ready.is in
-    let st = subst (λ (q : request.Request WorldRecord). StepsTo (λ (x : WorldRecord). x.reservation.granted.bytes) (next_step c.args.machine.now.program.program c.args.machine.now.state) c.args.machine.now.records (Call q) c.step.new.self) c.in-Call-Reserve.field-0-is c.in-Call-Reserve.ensures.stepped in
+    let st = subst (λ (q : request.Request RingRecord). StepsTo (λ (x : RingRecord). x.reservation.granted.bytes) (next_step c.args.machine.now.program.program c.args.machine.now.state) c.args.machine.now.records (Call q) c.step.new.self) c.in-Call-Reserve.field-0-is c.in-Call-Reserve.ensures.stepped in
     let lawful = subst (IsLawful old.program) st.2 (lawful-of old st.0 mid.state ready c.facts.ensures st.1) in
     let known : c.in-Call-Reserve.ring < old.program.rings = lawful.0 in
     let there : old.program.rings ≤ length rings = c.requires.program in
@@ -416,7 +416,7 @@ returns-in-Call-Output-clause-reasons c =
     let mid = c.step.new.self in
     let rings = c.args.rings.now.items in
     let ready : old.phase ≡ phase.Ready = sym c.phase.ensures ∙ c.in-Ready.is in
-    let st = subst (λ (q : request.Request WorldRecord). StepsTo (λ (x : WorldRecord). x.reservation.granted.bytes) (next_step c.args.machine.now.program.program c.args.machine.now.state) c.args.machine.now.records (Call q) c.step.new.self) c.in-Call-Output.field-0-is c.in-Call-Output.ensures.stepped in
+    let st = subst (λ (q : request.Request RingRecord). StepsTo (λ (x : RingRecord). x.reservation.granted.bytes) (next_step c.args.machine.now.program.program c.args.machine.now.state) c.args.machine.now.records (Call q) c.step.new.self) c.in-Call-Output.field-0-is c.in-Call-Output.ensures.stepped in
     let lawful = subst (IsLawful old.program) st.2.2 (lawful-of old st.0 mid.state ready c.facts.ensures st.1) in
     let known : c.in-Call-Output.ring < old.program.rings = lawful in
     let there : old.program.rings ≤ length rings = c.requires.program in
@@ -435,7 +435,7 @@ returns-in-Call-Query-clause-reasons c =
     let mid = c.step.new.self in
     let rings = c.args.rings.now.items in
     let ready : old.phase ≡ phase.Ready = sym c.phase.ensures ∙ c.in-Ready.is in
-    let st = subst (λ (q : request.Request WorldRecord). StepsTo (λ (x : WorldRecord). x.reservation.granted.bytes) (next_step c.args.machine.now.program.program c.args.machine.now.state) c.args.machine.now.records (Call q) c.step.new.self) c.in-Call-Query.field-0-is c.in-Call-Query.ensures.stepped in
+    let st = subst (λ (q : request.Request RingRecord). StepsTo (λ (x : RingRecord). x.reservation.granted.bytes) (next_step c.args.machine.now.program.program c.args.machine.now.state) c.args.machine.now.records (Call q) c.step.new.self) c.in-Call-Query.field-0-is c.in-Call-Query.ensures.stepped in
     let is = subst (λ call. next_step old.program.program old.state ≡ Asks call mid.state) st.2 st.1 in
     other-call c.args.w (worker_of old) rings _ _ (λ none. none) mid.state is
 
@@ -445,7 +445,7 @@ returns-in-Call-Submit-clause-reasons c =
     let mid = c.step.new.self in
     let rings = c.args.rings.now.items in
     let ready : old.phase ≡ phase.Ready = sym c.phase.ensures ∙ c.in-Ready.is in
-    let st = subst (λ (q : request.Request WorldRecord). StepsTo (λ (x : WorldRecord). x.reservation.granted.bytes) (next_step c.args.machine.now.program.program c.args.machine.now.state) c.args.machine.now.records (Call q) c.step.new.self) c.in-Call-Submit.field-0-is c.in-Call-Submit.ensures.stepped in
+    let st = subst (λ (q : request.Request RingRecord). StepsTo (λ (x : RingRecord). x.reservation.granted.bytes) (next_step c.args.machine.now.program.program c.args.machine.now.state) c.args.machine.now.records (Call q) c.step.new.self) c.in-Call-Submit.field-0-is c.in-Call-Submit.ensures.stepped in
     let is = subst (λ call. next_step old.program.program old.state ≡ Asks call mid.state) st.2.2 st.1 in
     other-call c.args.w (worker_of old) rings _ _ (λ none. none) mid.state is
 
@@ -455,6 +455,6 @@ returns-in-Call-Discard-clause-reasons c =
     let mid = c.step.new.self in
     let rings = c.args.rings.now.items in
     let ready : old.phase ≡ phase.Ready = sym c.phase.ensures ∙ c.in-Ready.is in
-    let st = subst (λ (q : request.Request WorldRecord). StepsTo (λ (x : WorldRecord). x.reservation.granted.bytes) (next_step c.args.machine.now.program.program c.args.machine.now.state) c.args.machine.now.records (Call q) c.step.new.self) c.in-Call-Discard.field-0-is c.in-Call-Discard.ensures.stepped in
+    let st = subst (λ (q : request.Request RingRecord). StepsTo (λ (x : RingRecord). x.reservation.granted.bytes) (next_step c.args.machine.now.program.program c.args.machine.now.state) c.args.machine.now.records (Call q) c.step.new.self) c.in-Call-Discard.field-0-is c.in-Call-Discard.ensures.stepped in
     let is = subst (λ call. next_step old.program.program old.state ≡ Asks call mid.state) st.2.2 st.1 in
     other-call c.args.w (worker_of old) rings _ _ (λ none. none) mid.state is

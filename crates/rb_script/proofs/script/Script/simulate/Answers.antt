@@ -29,4 +29,4 @@ pub returns-clause-begun : goal.returns-clause-begun
 returns-clause-begun g c =
     let accepted : AllZip (IsWorkersProgram (length c.args.self.now.rings.items)) (map worker_text c.args.self.now.workers.items) c.in-Ok.programs.items = first_of (search rules, grind (arith, common_steps)) in
     let same : c.as_slice-2.result.now ≡ c.in-Ok.programs.items = search rules in
-    breaks-off c.args.draw c.args.self.now c.as_slice-2.result.now c.in-Ok.programs.items c.args.text.now.items c.simulate_with.new.text.items same accepted c.in-Err-simulate_with.ensures.begun
+    breaks-off c.args.form c.args.draw c.args.self.now c.as_slice-2.result.now c.in-Ok.programs.items c.args.text.now.items c.simulate_with.new.text.items same accepted c.in-Err-simulate_with.ensures.begun

@@ -26,12 +26,12 @@ pub ends_of-requires-clause-rings : goal.ends_of-requires-clause-rings
 ends_of-requires-clause-rings g c = let few : length c.in-Ok.world.rings ≤ 16 = few-rings _ _ _ c.in-Ok.ensures.opened c.in-Ok.ensures.allowed in omega (arith, few, c.in_ok-run.ensures.rings)
 
 pub returns-in_err-run-clause-begun : goal.returns-in_err-run-clause-begun
-returns-in_err-run-clause-begun g c = on-err c.from_residual-in_err-run.result (inr (began-with c.args.self.now c.args.programs.now c.in_ok-setups.setups.items c.as_slice.result.now c.as_slice-2.result.now c.as_slice-3.result.now c.as_slice.ensures.value c.as_slice-2.ensures.value c.as_slice-3.ensures.value c.requires.may_run c.requires.accepted c.in_ok-setups.ensures.setups c.in-Ok.world c.in-Ok.ensures.opened c.as_slice-4.result.now c.as_slice-4.ensures.value c.args.draw c.args.text.now.items c.run.new.text.items c.in_err-run.ensures.begun))
+returns-in_err-run-clause-begun g c = on-err c.from_residual-in_err-run.result (inr (began-with c.args.self.now c.args.programs.now c.in_ok-setups.setups.items c.as_slice.result.now c.as_slice-2.result.now c.as_slice-3.result.now c.as_slice.ensures.value c.as_slice-2.ensures.value c.as_slice-3.ensures.value c.requires.may_run c.requires.accepted c.in_ok-setups.ensures.setups c.in-Ok.world c.in-Ok.ensures.opened c.as_slice-4.result.now c.as_slice-4.ensures.value c.args.form c.args.draw c.args.text.now.items c.run.new.text.items c.in_err-run.ensures.begun))
 
 pub returns-clause-ran : goal.returns-clause-ran
 returns-clause-ran g c =
-    IfOk-weaker c.ends_of.result (λ (ends : Vec ℕ Global). ends.items ≡ world_text c.run.new.world) (λ (ends : Vec ℕ Global). SimulatesWith c.args.draw c.args.self.now c.args.programs.now c.args.text.now.items c.run.new.text.items ends.items)
-    (λ ends is. ran-with c.args.self.now c.args.programs.now c.in_ok-setups.setups.items c.as_slice.result.now c.as_slice-2.result.now c.as_slice-3.result.now c.as_slice.ensures.value c.as_slice-2.ensures.value c.as_slice-3.ensures.value c.requires.may_run c.requires.accepted c.in_ok-setups.ensures.setups c.in-Ok.world c.in-Ok.ensures.opened c.as_slice-4.result.now c.as_slice-4.ensures.value c.args.draw c.run.new.world c.args.text.now.items c.run.new.text.items ends.items c.in_ok-run.ensures.written is) c.ends_of.ensures.lines
+    IfOk-weaker c.ends_of.result (λ (ends : Vec ℕ Global). ends.items ≡ world_text c.args.form c.run.new.world) (λ (ends : Vec ℕ Global). SimulatesWith c.args.form c.args.draw c.args.self.now c.args.programs.now c.args.text.now.items c.run.new.text.items ends.items)
+    (λ ends is. ran-with c.args.self.now c.args.programs.now c.in_ok-setups.setups.items c.as_slice.result.now c.as_slice-2.result.now c.as_slice-3.result.now c.as_slice.ensures.value c.as_slice-2.ensures.value c.as_slice-3.ensures.value c.requires.may_run c.requires.accepted c.in_ok-setups.ensures.setups c.in-Ok.world c.in-Ok.ensures.opened c.as_slice-4.result.now c.as_slice-4.ensures.value c.args.form c.args.draw c.run.new.world c.args.text.now.items c.run.new.text.items ends.items c.in_ok-run.ensures.written is) c.ends_of.ensures.lines
 
 pub returns-clause-begun : goal.returns-clause-begun
-returns-clause-begun g c = on-err c.ends_of.result (inr (began-with c.args.self.now c.args.programs.now c.in_ok-setups.setups.items c.as_slice.result.now c.as_slice-2.result.now c.as_slice-3.result.now c.as_slice.ensures.value c.as_slice-2.ensures.value c.as_slice-3.ensures.value c.requires.may_run c.requires.accepted c.in_ok-setups.ensures.setups c.in-Ok.world c.in-Ok.ensures.opened c.as_slice-4.result.now c.as_slice-4.ensures.value c.args.draw c.args.text.now.items c.run.new.text.items (all-begun _ _ _ _ _ _ c.in_ok-run.ensures.written)))
+returns-clause-begun g c = on-err c.ends_of.result (inr (began-with c.args.self.now c.args.programs.now c.in_ok-setups.setups.items c.as_slice.result.now c.as_slice-2.result.now c.as_slice-3.result.now c.as_slice.ensures.value c.as_slice-2.ensures.value c.as_slice-3.ensures.value c.requires.may_run c.requires.accepted c.in_ok-setups.ensures.setups c.in-Ok.world c.in-Ok.ensures.opened c.as_slice-4.result.now c.as_slice-4.ensures.value c.args.form c.args.draw c.args.text.now.items c.run.new.text.items (all-begun _ _ _ _ _ _ _ c.in_ok-run.ensures.written)))

@@ -4,7 +4,7 @@ use Rattle.rb_chapter_ring.specs.HandGranted.{HandGranted}
 use Rattle.rb_chapter_ring.specs.Hands.{hand_at}
 use Rattle.rb_semantics.specs.declared.pending_call.PendingCall.TheVariants as asked
 use Rattle.rb_interp.specs.MachineState.{MachineState}
-use Rattle.rb_world.specs.declared.world_record.WorldRecord.{WorldRecord}
+use Rattle.rb_chapter_ring.specs.declared.ring_record.RingRecord.{RingRecord}
 use Rattle.rb_world.specs.inner.WorkerTurn.{AnswersReserve}
 use Rattle.rb_world.specs.inner.FittingWorlds.{AreOwn}
 use Rattle.rb_chapter_ring.specs.Chapters.{joined}
@@ -30,13 +30,13 @@ returns-clause-answered c = elim c.match-reserve.branch [
       let v' = whole_ring (joined c.self.inside.chapters.items) c.reserve.new.ring.state.ring in
       let h : IsReserved v v' c.args.w c.args.len c.args.flags (Some x.granted) = subst (λ (o : Option HandGranted). IsReserved v v' c.args.w c.args.len c.args.flags (option_map (λ (r : HandGranted). r.granted) o)) w.in-Some.is (c.reserve.ensures.reserved (joined c.self.inside.chapters.items) (kept-of _ c.self.invariant)).1 in
       let none = no-record c.args.machine.now c.args.len (record { ring = c.args.r; reservation = x }) c.requires.waits c.facts.ensures c.record_facts.ensures (given-parts v v' c.args.w c.args.len c.args.flags x.granted h).1 in
-      subst (λ (m : MachineState WorldRecord). AnswersReserve c.args.w c.args.r c.args.len c.args.flags c.args.machine.now (world_ring c.args.self.now) m (record { ring = v'; taken = c.self.inside.taken.items })) (sym w.machine-is)
+      subst (λ (m : MachineState RingRecord). AnswersReserve c.args.w c.args.r c.args.len c.args.flags c.args.machine.now (world_ring c.args.self.now) m (record { ring = v'; taken = c.self.inside.taken.items })) (sym w.machine-is)
       (reserve-granted c.args.w (world_ring c.args.self.now) v v' c.self.inside.taken.items (ap world_ring c.self.view_is) c.args.machine.now w.answer.new.self w.answer.ensures.program c.args.r c.args.len c.args.flags x h none (w.answer.ensures.goes_on (asked.Reserve c.args.len) c.requires.waits) w.answer.ensures.records)
   | in-None w ↦
       let v = whole_ring (joined c.self.inside.chapters.items) c.self.inside.ring.state.ring in
       let v' = whole_ring (joined c.self.inside.chapters.items) c.reserve.new.ring.state.ring in
       let h : IsReserved v v' c.args.w c.args.len c.args.flags None = subst (λ (o : Option HandGranted). IsReserved v v' c.args.w c.args.len c.args.flags (option_map (λ (r : HandGranted). r.granted) o)) w.in-None.is (c.reserve.ensures.reserved (joined c.self.inside.chapters.items) (kept-of _ c.self.invariant)).1 in
-      subst (λ (m : MachineState WorldRecord). AnswersReserve c.args.w c.args.r c.args.len c.args.flags c.args.machine.now (world_ring c.args.self.now) m (record { ring = v'; taken = c.self.inside.taken.items })) (sym w.machine-is)
+      subst (λ (m : MachineState RingRecord). AnswersReserve c.args.w c.args.r c.args.len c.args.flags c.args.machine.now (world_ring c.args.self.now) m (record { ring = v'; taken = c.self.inside.taken.items })) (sym w.machine-is)
       (reserve-refused c.args.w (world_ring c.args.self.now) v v' c.self.inside.taken.items (ap world_ring c.self.view_is) c.args.machine.now w.answer-in-None.new.self w.answer-in-None.ensures.program c.args.r c.args.len c.args.flags h (w.answer-in-None.ensures.goes_on (asked.Reserve c.args.len) c.requires.waits) w.answer-in-None.ensures.records)
 ]
 
@@ -49,9 +49,9 @@ returns-clause-own c rings low own = elim c.match-reserve.branch [
       let h : IsReserved v v' c.args.w c.args.len c.args.flags (Some x.granted) = subst (λ (o : Option HandGranted). IsReserved v v' c.args.w c.args.len c.args.flags (option_map (λ (r : HandGranted). r.granted) o)) w.in-Some.is (c.reserve.ensures.reserved (joined c.self.inside.chapters.items) (kept-of _ c.self.invariant)).1 in
       let parts = given-parts v v' c.args.w c.args.len c.args.flags x.granted h in
       let none = no-record c.args.machine.now c.args.len (record { ring = c.args.r; reservation = x }) c.requires.waits c.facts.ensures c.record_facts.ensures parts.1 in
-      subst (λ (m : MachineState WorldRecord). AreOwn c.args.w rings m.records) (sym w.machine-is) (subst (AreOwn c.args.w rings) (sym w.answer.ensures.records)
+      subst (λ (m : MachineState RingRecord). AreOwn c.args.w rings m.records) (sym w.machine-is) (subst (AreOwn c.args.w rings) (sym w.answer.ensures.records)
       (all-granted (λ q. (q.ring < rings) × (q.worker ≡ c.args.w)) c.args.machine.now.state.unit (record { ring = c.args.r; reservation = x }) c.args.machine.now.records none (low, parts.0) own))
-  | in-None w ↦ subst (λ (m : MachineState WorldRecord). AreOwn c.args.w rings m.records) (sym w.machine-is) (subst (AreOwn c.args.w rings) (sym w.answer-in-None.ensures.records) own)
+  | in-None w ↦ subst (λ (m : MachineState RingRecord). AreOwn c.args.w rings m.records) (sym w.machine-is) (subst (AreOwn c.args.w rings) (sym w.answer-in-None.ensures.records) own)
 ]
 
 pub invariant_of-self : goal.invariant_of-self
@@ -82,12 +82,12 @@ returns-clause-held c = elim c.match-reserve.branch [
       let none = no-record c.args.machine.now c.args.len (record { ring = c.args.r; reservation = x }) c.requires.waits c.facts.ensures c.record_facts.ensures parts.1 in
       let old = c.args.machine.now.records in
       let book = c.reserve.new.ring.state.hands in
-      subst (λ (m : MachineState WorldRecord). HoldsOldOrOut c.args.r book old m.records) (sym w.machine-is) (subst (HoldsOldOrOut c.args.r book old) (sym w.answer.ensures.records)
+      subst (λ (m : MachineState RingRecord). HoldsOldOrOut c.args.r book old m.records) (sym w.machine-is) (subst (HoldsOldOrOut c.args.r book old) (sym w.answer.ensures.records)
       (all-granted (λ q. WasHeld old q ⊎ ((q.ring ≡ c.args.r) × (hand_at book q.worker q.hand ≡ Some q.out))) c.args.machine.now.state.unit (record { ring = c.args.r; reservation = x }) old none (inr (refl, w.in-Some.ensures.in_hand)) (λ id y e. inl (held-were old id y e))))
   | in-None w ↦
       let old = c.args.machine.now.records in
       let book = c.reserve.new.ring.state.hands in
-      subst (λ (m : MachineState WorldRecord). HoldsOldOrOut c.args.r book old m.records) (sym w.machine-is) (subst (HoldsOldOrOut c.args.r book old) (sym w.answer-in-None.ensures.records) (λ id y e. inl (held-were old id y e)))
+      subst (λ (m : MachineState RingRecord). HoldsOldOrOut c.args.r book old m.records) (sym w.machine-is) (subst (HoldsOldOrOut c.args.r book old) (sym w.answer-in-None.ensures.records) (λ id y e. inl (held-were old id y e)))
 ]
 
 pub returns-clause-hands : goal.returns-clause-hands

@@ -1,24 +1,24 @@
-//! A record that an engine granted.
+//! A record that one of several rings granted.
 
-use rb_chapter_ring::Reservation;
+use crate::reservation::Reservation;
 use rb_lend::Lent;
 
-/// A record that a ring of an engine granted: the ring's number and the reservation.
+/// A record that one of several rings granted: the number of its ring, and the reservation.
 #[derive(Drop)]
-pub struct EngineRecord {
+pub struct RingRecord {
     /// The number of the ring.
     pub ring: u32,
     /// The reservation at that ring.
     pub reservation: Reservation,
 }
 
-impl Lent for EngineRecord {
-    ghost use Rattle.rb_lend.specs.Ranges.{in_place_of};
+impl Lent for RingRecord {
     ghost use Rattle.rb_lend.specs.Rewritten.{rewritten_in_place};
+    ghost use Rattle.rb_chapter_ring.specs.RingRecords.{reserved_bytes, with_record_bytes};
 
-    ghost bytes_of = { λ s. s.reservation.granted.bytes };
+    ghost bytes_of = { reserved_bytes };
 
-    ghost with_bytes = { λ s w. record s { reservation = record s.reservation { granted = record s.reservation.granted { bytes = in_place_of s.reservation.granted.bytes w } } } };
+    ghost with_bytes = { with_record_bytes };
 
     fn bytes(&self) -> &[u8] {
         self.reservation.bytes()

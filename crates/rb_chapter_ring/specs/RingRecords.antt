@@ -1,11 +1,11 @@
--- The bytes of a record that helpers over seats granted, which are those of its reservation (own).
+-- The bytes of a record that one of several rings granted, which are those of its reservation (own).
 use Rattle.std.specs.Prelude.{ℕ, List}
 use Rattle.rb_lend.specs.Ranges.{in_place_of}
-use Rattle.rb_jobs.specs.declared.seat_record.SeatRecord.{SeatRecord}
+use Rattle.rb_chapter_ring.specs.declared.ring_record.RingRecord.{RingRecord}
 
-abbrev pub reserved_bytes : SeatRecord → List ℕ
+abbrev pub reserved_bytes : RingRecord → List ℕ
 reserved_bytes owned = owned.reservation.granted.bytes
 
 -- the record with these bytes written to it
-abbrev pub with_record_bytes : SeatRecord → List ℕ → SeatRecord
+abbrev pub with_record_bytes : RingRecord → List ℕ → RingRecord
 with_record_bytes owned bytes = record owned { reservation = record owned.reservation { granted = record owned.reservation.granted { bytes = in_place_of owned.reservation.granted.bytes bytes } } }
