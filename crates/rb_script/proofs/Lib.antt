@@ -6,7 +6,7 @@ pub mod ScriptParts
 pub mod WorkerPrograms
 mod TurnLines
 mod WorldEnds
-mod ObjectPieces
+mod TextPieces
 mod RunnableScripts
 mod PrintedRuns
 mod ToldLines

@@ -22,9 +22,8 @@ use Rattle.rb_world.proofs.Openings.{length-opened}
 use Rattle.rb_chapter_ring.specs.Chapters.{Chapter, closing_of}
 use Rattle.rb_chapter_ring.specs.Snapshot.{Snapshot}
 use Rattle.rb_json.specs.declared.form.LineForm.{LineForm}
-use Rattle.rb_json.specs.declared.form.LineForm.TheVariants.{Words, Json}
 use Rattle.rb_script.specs.Drawings.{drawing_line, ring_drawing}
-use Rattle.rb_script.specs.OutputLines.{counts_fields, ring_line}
+use Rattle.rb_script.specs.OutputLines.{ring_line}
 use Rattle.rb_script.specs.Simulation.{lines_below, ring_state_text}
 
 pub machines-long : (setups : List WorkerSetup) (machines : List (MachineState RingRecord)) → AllZip IsStarted setups machines → length setups ≡ length machines
@@ -47,9 +46,7 @@ line-more line_at n start before after so_far more = rw add-one (more ∙ (ap (�
 
 -- a ring's line has no count that is capped
 line-capped : (form : LineForm) (r producer consumer : ℕ) (counts : Counts) → ring_line form r producer consumer (capped_counts counts) ≡ ring_line form r producer consumer counts
-unfolding counts_fields
-line-capped Words r producer consumer counts = refl
-line-capped Json r producer consumer counts = refl
+line-capped form r producer consumer counts = refl
 
 -- the line of a ring from its queries and counts, which it adds to those of its chapter's opening
 module _ (earlier : List Entry) (ring : ChapterRing) (kept : IsKept earlier ring.chapter) where

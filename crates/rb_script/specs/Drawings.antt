@@ -3,7 +3,7 @@
 --
 --     draw 0 | consumer 0 | busy 16 worker 0 serial 0 | waiting 24 worker 1 serial 0 | producer 40 | free 4056
 --     {"draw":0,"consumer":0,"records":[{"status":"busy","bytes":16,"worker":0,"serial":0}],"producer":16,"free":4080}
-use Rattle.std.specs.Prelude.{ℕ, ◌-◌, List, [], ◌∷◌, ◌++◌, codes, map}
+use Rattle.std.specs.Prelude.{ℕ, ◌-◌, List, [], ◌∷◌, ◌++◌, codes}
 use Rattle.std.specs.Fmt.{decimal}
 use Rattle.std.specs.List.{flat_map}
 use Rattle.rb_history.specs.Span.{span}
@@ -11,10 +11,9 @@ use Rattle.rb_history.specs.Calls.{producer_now, consumer_now}
 use Rattle.rb_history.specs.History.{Shown, Status, records}
 use Rattle.rb_history.specs.History.Status.{Busy, Waiting, Consumed, Discarded}
 use Rattle.rb_history.specs.RingModel.{Ring}
-use Rattle.rb_io.specs.Lines.{line}
-use Rattle.rb_json.specs.Json.{json_number}
 use Rattle.rb_json.specs.declared.form.LineForm.{LineForm}
 use Rattle.rb_json.specs.declared.form.LineForm.TheVariants.{Words, Json}
+use Rattle.rb_script.specs.LineFields.{field, first_field, line_end}
 
 abbrev pub status_word : Status → List ℕ
 status_word Busy = codes "busy"
@@ -22,49 +21,35 @@ status_word Waiting = codes "waiting"
 status_word Consumed = codes "consumed"
 status_word Discarded = codes "discarded"
 
--- ---- in words
+-- a part of a drawing: ` | consumer 0` or ,"consumer":0
+unfoldable pub part : LineForm → (name : List ℕ) → ℕ → List ℕ
+part Words name n = codes " |" ++ field Words name n
+part Json name n = field Json name n
 
--- a record's status, the bytes that it takes with its header, its worker and its serial
-unfoldable pub box_text : Shown → List ℕ
-box_text s = codes " | " ++ status_word s.status ++ codes " " ++ decimal (span s.len) ++ codes " worker " ++ decimal s.worker ++ codes " serial " ++ decimal s.serial
+-- a record's box: its status, the bytes that it takes with its header, its worker and its serial
+unfoldable pub record_box : LineForm → Shown → List ℕ
+record_box Words s = codes " | " ++ status_word s.status ++ codes " " ++ decimal (span s.len) ++ field Words (codes "worker") s.worker ++ field Words (codes "serial") s.serial
+record_box Json s = codes "{\"status\":\"" ++ status_word s.status ++ codes "\"" ++ field Json (codes "bytes") (span s.len) ++ field Json (codes "worker") s.worker ++ field Json (codes "serial") s.serial ++ codes "}"
 
--- the ring's number and its consumer position
-unfoldable pub drawing_front : (ring consumer : ℕ) → List ℕ
-drawing_front ring consumer = codes "draw " ++ decimal ring ++ codes " | consumer " ++ decimal consumer
+-- a further box of a list; objects have a comma between them
+abbrev pub next_box : LineForm → Shown → List ℕ
+next_box Words s = record_box Words s
+next_box Json s = codes "," ++ record_box Json s
 
--- the producer position, and how many of the ring's bytes are not between the two positions
-unfoldable pub drawing_end : (size consumer producer : ℕ) → List ℕ
-drawing_end size consumer producer = codes " | producer " ++ decimal producer ++ codes " | free " ++ decimal (size - (producer - consumer))
+abbrev pub objects : List Shown → List ℕ
+objects [] = []
+objects (first ∷ more) = record_box Json first ++ flat_map (next_box Json) more
 
--- ---- as an object
+-- the boxes of the records, or a list of objects
+abbrev pub boxes : LineForm → List Shown → List ℕ
+boxes Words shown = flat_map (next_box Words) shown
+boxes Json shown = codes ",\"records\":[" ++ objects shown ++ codes "]"
 
--- the same of a record, as the object {"status":"busy","bytes":16,"worker":0,"serial":0}
-unfoldable pub box_object : Shown → List ℕ
-box_object s =
-    codes "{\"status\":\"" ++ status_word s.status ++ codes "\",\"bytes\":" ++ json_number (span s.len) ++ codes ",\"worker\":" ++ json_number s.worker ++ codes ",\"serial\":" ++ json_number s.serial ++ codes "}"
-
--- the values of a list, separated by commas
-abbrev pub next_value : List ℕ → List ℕ
-next_value value = codes "," ++ value
-
-abbrev pub separated : List (List ℕ) → List ℕ
-separated [] = []
-separated (first ∷ more) = first ++ flat_map next_value more
-
--- the ring's number and its consumer position, and the beginning of the list of records
-unfoldable pub object_front : (ring consumer : ℕ) → List ℕ
-object_front ring consumer = codes "{\"draw\":" ++ json_number ring ++ codes ",\"consumer\":" ++ json_number consumer ++ codes ",\"records\":["
-
--- the end of the list, the producer position and the free bytes
-unfoldable pub object_end : (size consumer producer : ℕ) → List ℕ
-object_end size consumer producer = codes "],\"producer\":" ++ json_number producer ++ codes ",\"free\":" ++ json_number (size - (producer - consumer)) ++ codes "}"
-
--- ---- in the requested form
-
--- a ring's drawing: its number, its size, its positions, and the records between them
+-- a ring's drawing: its number, its consumer position, the records, its producer position, and how many of its bytes
+-- are not between the two positions
 abbrev pub drawing_line : LineForm → (ring size consumer producer : ℕ) → List Shown → List ℕ
-drawing_line Words ring size consumer producer shown = line (drawing_front ring consumer ++ flat_map box_text shown ++ drawing_end size consumer producer)
-drawing_line Json ring size consumer producer shown = line (object_front ring consumer ++ separated (map box_object shown) ++ object_end size consumer producer)
+drawing_line form ring size consumer producer shown =
+    first_field form (codes "draw") ring ++ part form (codes "consumer") consumer ++ boxes form shown ++ part form (codes "producer") producer ++ part form (codes "free") (size - (producer - consumer)) ++ line_end form
 
 -- a ring, by its whole history: the records that were not taken, in the order of their grants
 abbrev pub ring_drawing : LineForm → ℕ → Ring → List ℕ

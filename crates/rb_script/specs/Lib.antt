@@ -1,6 +1,7 @@
 pub mod ScriptText
 pub mod Scripts
 pub mod Programs
+pub mod LineFields
 pub mod OutputLines
 pub mod Drawings
 pub mod Simulation

@@ -14,9 +14,8 @@
 //! ```
 #![tactic(auto)]
 
-mod drawing_objects;
 mod drawings;
-mod object_lines;
+mod line_fields;
 mod output_lines;
 mod programs;
 mod reasons;
@@ -26,7 +25,6 @@ mod script_line;
 mod sim_command;
 mod simulation;
 mod turn_watch;
-mod word_lines;
 
 pub use reasons::line_reason;
 pub use script::{Script, ScriptWorker};
