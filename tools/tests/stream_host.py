@@ -99,8 +99,8 @@ class Host:
         return str(self.folder / name)
 
     def words(self, *options: str) -> list[str]:
-        """Returns the words of a command."""
-        return [self.program, "stream", *options]
+        """Returns the words of a command; an option may have several, with spaces between them."""
+        return [self.program, "stream", *(word for option in options for word in option.split())]
 
     def run(self, given: bytes, *options: str) -> tuple[int, bytes, Counters]:
         """Runs the service over an input; returns its status, what it prints, and its counters."""

@@ -36,20 +36,7 @@ def test_restarts(host: Host) -> None:
     """Hosts that are killed at random moments, and a follower of all of them."""
     program, folder = host.file("all.hex", output_program(0, 16)), host.folder / "segments"
     words = host.words(
-        "--ring",
-        "events:64K",
-        "--program",
-        program,
-        "--workers",
-        "2",
-        "--ctx",
-        "16",
-        "--in",
-        "fixed",
-        "--out",
-        str(folder),
-        "--segment",
-        "20K",
+        f"--ring events:64K --program {program} --workers 2 --ctx 16 --in fixed --out {folder} --segment 20K"
     )
     number, follower = 0, None
     try:
@@ -99,22 +86,7 @@ def test_restarts(host: Host) -> None:
 def test_cut_record(host: Host) -> None:
     """A segment that was cut inside a record."""
     program, folder = host.file("all.hex", output_program(0, 8)), host.folder / "segments"
-    words = [
-        "--ring",
-        "events:4096",
-        "--program",
-        program,
-        "--workers",
-        "1",
-        "--ctx",
-        "8",
-        "--in",
-        "fixed",
-        "--out",
-        str(folder),
-        "--segment",
-        "64",
-    ]
+    words = [f"--ring events:4096 --program {program} --workers 1 --ctx 8 --in fixed --out {folder} --segment 64"]
     assert_same(status=(host.run(b"".join(struct.pack("<Q", n) for n in range(10)), *words)[0], 0))
     names = [position for position, _ in segments(folder, "events")]
     last = folder / f"events.{names[-1]:020}.tape"
@@ -136,20 +108,7 @@ def test_refusals(host: Host) -> None:
     program, folder = host.file("all.hex", output_program(0, 8)), host.folder / "segments"
 
     def words(size: str) -> list[str]:
-        return [
-            "--ring",
-            f"events:{size}",
-            "--program",
-            program,
-            "--workers",
-            "1",
-            "--ctx",
-            "8",
-            "--in",
-            "fixed",
-            "--out",
-            str(folder),
-        ]
+        return [f"--ring events:{size} --program {program} --workers 1 --ctx 8 --in fixed --out {folder}"]
 
     first = subprocess.Popen(host.words(*words("4096")), stdin=subprocess.PIPE, stderr=subprocess.PIPE)
     try:
@@ -159,7 +118,7 @@ def test_refusals(host: Host) -> None:
         first.communicate(struct.pack("<Q", 7), timeout=SECONDS)
     finally:
         first.kill()
-    other = host.run(b"", "--ring", "new:4096", *words("8192"))
+    other = host.run(b"", "--ring new:4096", *words("8192"))
     unopened = not (folder / "new.ring").exists()
     ended = (folder / "events.end").exists()
     (folder / "events.ring").write_text("heskavo-segments 1 size 4096\n")
@@ -178,22 +137,8 @@ def test_keep(host: Host) -> None:
     """Segments of which the oldest are deleted."""
     program, folder = host.file("all.hex", output_program(0, 120)), host.folder / "segments"
     words = [
-        "--ring",
-        "events:4M",
-        "--program",
-        program,
-        "--workers",
-        "2",
-        "--ctx",
-        "120",
-        "--in",
-        "fixed",
-        "--out",
-        str(folder),
-        "--segment",
-        "64K",
-        "--keep",
-        "1M",
+        f"--ring events:4M --program {program} --workers 2 --ctx 120 --in fixed --out {folder} --segment 64K",
+        "--keep 1M",
     ]
     contexts = b"".join(struct.pack("<Q", n).ljust(120, b"\0") for n in range(CONTEXTS))
     for _ in range(2):
@@ -251,22 +196,8 @@ def test_long_keep(host: Host, seconds: int) -> None:
     """Segments that are deleted for a long time, and a follower that comes late."""
     program, folder = host.file("all.hex", output_program(0, 120)), host.folder / "segments"
     words = host.words(
-        "--ring",
-        "events:4M",
-        "--program",
-        program,
-        "--workers",
-        "2",
-        "--ctx",
-        "120",
-        "--in",
-        "fixed",
-        "--out",
-        str(folder),
-        "--segment",
-        "64K",
-        "--keep",
-        "1M",
+        f"--ring events:4M --program {program} --workers 2 --ctx 120 --in fixed --out {folder} --segment 64K",
+        "--keep 1M",
     )
     started = subprocess.Popen(words, stdin=subprocess.PIPE, stderr=subprocess.PIPE)
     follower, number, begins, most = None, 0, (0, 0), 0
@@ -326,26 +257,8 @@ def test_long_speed(host: Host, seconds: int) -> None:
     """A host at full speed for a long time."""
     program, folder = host.file("all.hex", output_program(0, 24)), host.folder / "segments"
     words = host.words(
-        "--ring",
-        "events:4M",
-        "--program",
-        program,
-        "--workers",
-        "4",
-        "--ctx",
-        "128",
-        "--in",
-        "fixed",
-        "--out",
-        str(folder),
-        "--segment",
-        "16M",
-        "--keep",
-        "64M",
-        "--metrics",
-        str(host.folder / "metrics"),
-        "--every",
-        "1",
+        f"--ring events:4M --program {program} --workers 4 --ctx 128 --in fixed --out {folder} --segment 16M",
+        f"--keep 64M --metrics {host.folder / 'metrics'} --every 1",
     )
     with open(host.folder / "told", "wb") as told:
         started = subprocess.Popen(words, stdin=subprocess.PIPE, stderr=told)
@@ -392,22 +305,8 @@ def test_full_disk(host: Host) -> None:
     try:
         first, second = host.file("all.hex", output_program(0, 120)), host.file("other.hex", output_program(1, 120))
         words = [
-            "--ring",
-            "big:4M",
-            "--ring",
-            "other:4M",
-            "--program",
-            first,
-            "--program",
-            second,
-            "--workers",
-            "2",
-            "--ctx",
-            "120",
-            "--in",
-            "fixed",
-            "--segment",
-            "64K",
+            f"--ring big:4M --ring other:4M --program {first} --program {second} --workers 2 --ctx 120 --in fixed",
+            "--segment 64K",
         ]
         status, tape, counters = host.run(bytes(120) * CONTEXTS, *words, "--out", str(disk), "--out", "other=-")
         found = segments(disk, "big")

@@ -44,20 +44,7 @@ def test_frames(host: Host) -> None:
         + struct.pack("<I", END)
         + frame(b"never read")
     )
-    words = [
-        "--ring",
-        "events:64K",
-        "--program",
-        program,
-        "--workers",
-        "1",
-        "--ctx",
-        "16",
-        "--in",
-        "frames",
-        "--out",
-        "events=-",
-    ]
+    words = [f"--ring events:64K --program {program} --workers 1 --ctx 16 --in frames --out events=-"]
     status, tape, counters = host.run(given, *words, "--fit", "pad")
     wanted = [it.ljust(16, b"\0") for it in [*contexts, b"last"]]
     assert_same(
@@ -87,20 +74,7 @@ def test_frames(host: Host) -> None:
 def test_cut(host: Host) -> None:
     """An input that ends inside a frame."""
     program = host.file("all.hex", output_program(0, 8))
-    words = [
-        "--ring",
-        "events:4096",
-        "--program",
-        program,
-        "--workers",
-        "2",
-        "--ctx",
-        "8",
-        "--in",
-        "frames",
-        "--out",
-        "events=-",
-    ]
+    words = [f"--ring events:4096 --program {program} --workers 2 --ctx 8 --in frames --out events=-"]
     status, tape, counters = host.run(frame(b"12345678") + frame(b"abcdefgh") + frame(b"inside..")[:7], *words)
     told = "refused input ends inside context 2\n" in counters.text
     assert_same(
@@ -120,24 +94,8 @@ def test_lines(host: Host) -> None:
     first = host.file("all.hex", output_program(0, 32))
     small = host.file("small.hex", output_program(1, 32, above=0x60))
     words = [
-        "--ring",
-        "all:1M",
-        "--ring",
-        "small:1M",
-        "--program",
-        first,
-        "--program",
-        small,
-        "--workers",
-        "4",
-        "--ctx",
-        "32",
-        "--in",
-        "lines",
-        "--fit",
-        "cut",
-        "--out",
-        f"small={host.folder}/small.tape",
+        f"--ring all:1M --ring small:1M --program {first} --program {small} --workers 4 --ctx 32 --in lines",
+        f"--fit cut --out small={host.folder}/small.tape",
     ]
     status, _, counters = host.run(log, *words)
     count = int(subprocess.run(["grep", "-c", "^info", path], capture_output=True, check=True).stdout)
@@ -164,7 +122,7 @@ def test_objects(host: Host) -> None:
         "--program",
         host.file("discards.hex", discard_program(0, 40)),
     ]
-    words = ["--ring", "events:1M", *programs, "--workers", "1", "--ctx", "24", "--in", "fixed", "--out"]
+    words = ["--ring events:1M", *programs, "--workers", "1", "--ctx", "24", "--in", "fixed", "--out"]
     given, path = b"".join(contexts), host.folder / "lines"
     status, tape, _ = host.run(given, *words, "events=-")
     wanted = subprocess.run(
@@ -199,21 +157,7 @@ def test_objects(host: Host) -> None:
 def slowest(host: Host, *options: str) -> float:
     """Returns how long a context at a time takes over a pipe that stays open, at most."""
     program = host.file("all.hex", output_program(0, 8))
-    words = host.words(
-        "--ring",
-        "events:64K",
-        "--program",
-        program,
-        "--workers",
-        "2",
-        "--ctx",
-        "8",
-        "--in",
-        "fixed",
-        "--out",
-        "events=-",
-        *options,
-    )
+    words = host.words(f"--ring events:64K --program {program} --workers 2 --ctx 8 --in fixed --out events=-", *options)
     started = subprocess.Popen(words, stdin=subprocess.PIPE, stdout=subprocess.PIPE, stderr=subprocess.PIPE)
     longest = 0.0
     try:
@@ -246,20 +190,7 @@ def test_live(host: Host, options: tuple[str, ...]) -> None:
 def overload(host: Host, late: str) -> Counters:
     """Returns the counters of a run whose program is slow."""
     program = host.file("slow.hex", "b700000000000000 " * 3000 + output_program(0, 8))
-    words = [
-        "--ring",
-        "events:64M",
-        "--program",
-        program,
-        "--workers",
-        "1",
-        "--ctx",
-        "1024",
-        "--in",
-        "fixed",
-        "--late",
-        late,
-    ]
+    words = [f"--ring events:64M --program {program} --workers 1 --ctx 1024 --in fixed --late {late}"]
     return host.run(bytes(1024) * CONTEXTS, *words)[2]
 
 
@@ -288,22 +219,8 @@ def slow_output(host: Host, full: str) -> tuple[int, int, Counters]:
     given, told = host.folder / "contexts", host.folder / "counters"
     given.write_bytes(bytes(8 * SLOW))
     words = host.words(
-        "--ring",
-        "events:64K",
-        "--program",
-        program,
-        "--workers",
-        "64",
-        "--ctx",
-        "8",
-        "--in",
-        "fixed",
-        "--from",
-        str(given),
-        "--out",
-        "events=-",
-        "--full",
-        full,
+        f"--ring events:64K --program {program} --workers 64 --ctx 8 --in fixed --from {given} --out events=-",
+        f"--full {full}",
     )
     with open(told, "wb") as out, subprocess.Popen(
         words, stdin=subprocess.DEVNULL, stdout=subprocess.PIPE, stderr=out
@@ -343,20 +260,7 @@ def test_fifo(host: Host) -> None:
     os.mkfifo(path)
     program = host.file("all.hex", output_program(0, 16))
     words = host.words(
-        "--ring",
-        "events:1M",
-        "--program",
-        program,
-        "--workers",
-        "3",
-        "--ctx",
-        "16",
-        "--in",
-        "frames",
-        "--from",
-        str(path),
-        "--out",
-        "events=-",
+        f"--ring events:1M --program {program} --workers 3 --ctx 16 --in frames --from {path} --out events=-"
     )
     started = subprocess.Popen(words, stdin=subprocess.DEVNULL, stdout=subprocess.PIPE, stderr=subprocess.PIPE)
 

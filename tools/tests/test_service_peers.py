@@ -67,28 +67,8 @@ def test_metrics(host: Host) -> None:
     # The second program returns the first byte of the context: 0 or 200, which is counted among others.
     second = host.file("byte.hex", "7110000000000000 9500000000000000")
     words = host.words(
-        "--ring",
-        "events:64K",
-        "--program",
-        program,
-        "--program",
-        second,
-        "--workers",
-        "2",
-        "--ctx",
-        "16",
-        "--in",
-        "frames",
-        "--out",
-        str(host.folder / "segments"),
-        "--segment",
-        "4096",
-        "--keep",
-        "8192",
-        "--metrics",
-        str(path),
-        "--every",
-        "1",
+        f"--ring events:64K --program {program} --program {second} --workers 2 --ctx 16 --in frames",
+        f"--out {host.folder / 'segments'} --segment 4096 --keep 8192 --metrics {path} --every 1",
     )
     # What the file has once all of these contexts were run, although the input stays open.
     sent = {
@@ -173,19 +153,7 @@ def test_linux(host: Host) -> None:
     if ended.returncode:
         pytest.skip("bpf(2) is refused")
     wanted = records(ended.stdout)
-    words = [
-        "--ring",
-        "events:1M",
-        "--program",
-        str(yardsticks / "filter.hex"),
-        "--ctx",
-        "128",
-        "--in",
-        "fixed",
-        "--out",
-        "events=-",
-        "--workers",
-    ]
+    words = [f"--ring events:1M --program {yardsticks / 'filter.hex'} --ctx 128 --in fixed --out events=- --workers"]
     one, four = records(host.run(contexts, *words, "1")[1]), records(host.run(contexts, *words, "4")[1])
     assert_same(
         some=(len(wanted) > 2000, True), order=(one == wanted, True), records=(sorted(four) == sorted(wanted), True)
@@ -211,21 +179,7 @@ def test_sender(host: Host) -> None:
     """Lines of standard output, each sent to a Redis server as it comes."""
     server, client = redis_server(host)
     program = host.file("all.hex", output_program(0, 16))
-    words = host.words(
-        "--ring",
-        "events:64K",
-        "--program",
-        program,
-        "--workers",
-        "2",
-        "--ctx",
-        "16",
-        "--in",
-        "fixed",
-        "--out",
-        "events=-",
-        "--json",
-    )
+    words = host.words(f"--ring events:64K --program {program} --workers 2 --ctx 16 --in fixed --out events=- --json")
     running = [server]
     try:
         time.sleep(1)
@@ -268,23 +222,8 @@ def test_packets(host: Host, seconds: int) -> None:
     running = [server]
     folder = host.folder / "segments"
     stream = host.words(
-        "--ring",
-        "packets:1M",
-        "--program",
-        program,
-        "--workers",
-        "2",
-        "--ctx",
-        "128",
-        "--in",
-        "frames",
-        "--fit",
-        "cut",
-        "--with-length",
-        "--out",
-        str(folder),
-        "--segment",
-        "64K",
+        f"--ring packets:1M --program {program} --workers 2 --ctx 128 --in frames --fit cut --with-length",
+        f"--out {folder} --segment 64K",
     )
     try:
         with open(host.folder / "dump", "wb") as dump, open(host.folder / "counters", "wb") as told:
