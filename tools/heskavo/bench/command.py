@@ -181,33 +181,13 @@ def rows_of_programs(bench: list[str], interpreter: str | None) -> Iterator[Row]
     )
     yield Row("decode, shape and verify, 4096 units that spill", bench + ["time", "spill"], [], LOADS, "us", 1e3)
     instructions = RUNS * INSTRUCTIONS
-    yield Row(
-        "interpreter, 4000 units of arithmetic",
-        bench + ["time", "arithmetic"],
-        yardstick("run"),
-        instructions,
-        "ns",
-        1,
-        least=True,
-    )
-    yield Row(
-        "interpreter, 4000 units of the stack",
-        bench + ["time", "stack"],
-        yardstick("stack"),
-        instructions,
-        "ns",
-        1,
-        least=True,
-    )
-    yield Row(
-        "interpreter, 4000 units of memory",
-        bench + ["time", "memory"],
-        yardstick("memory"),
-        instructions,
-        "ns",
-        1,
-        least=True,
-    )
+    for code, word, kind in (
+        ("arithmetic", "arithmetic", "run"),
+        ("the stack", "stack", "stack"),
+        ("memory", "memory", "memory"),
+    ):
+        name = f"interpreter, 4000 units of {code}"
+        yield Row(name, bench + ["time", word], yardstick(kind), instructions, "ns", 1, least=True)
 
 
 def rows_of_jobs(bench: list[str], jobs: str | None) -> Iterator[Row]:
