@@ -109,7 +109,9 @@ def ran(monkeypatch: pytest.MonkeyPatch) -> list[str]:
 def test_all_parts_run_after_the_proofs(ran: list[str]) -> None:
     results = command.run_all(Times())
     assert ran[0] == "rt ci" and len(results) == len(ran) == 6
-    assert any(part.startswith("tools/refused --over-gate") for part in ran) and "tools/beside-linux 300" in ran
+    assert "tools/beside-linux 300" in ran
+    mutants = [part for part in ran if part.startswith("tools/refused --over-gate")]
+    assert [part.split()[-2:] for part in mutants] == [["--third", str(command.third_of_commit())]]
 
 
 def test_nothing_runs_after_proofs_that_fail(monkeypatch: pytest.MonkeyPatch) -> None:

@@ -18,7 +18,7 @@ import subprocess
 import tempfile
 from types import SimpleNamespace
 
-from heskavo.refused import answers, clauses, edits as edit_files, goals, kit, rounds
+from heskavo.refused import answers, clauses, command, edits as edit_files, goals, kit, rounds
 from heskavo.repository import TOOLS
 
 NAME = "small_for_refused"
@@ -264,6 +264,17 @@ def test_over_the_gate_those_in_planted_are_not_tried() -> None:
     said = runs().of_the_gate.stdout
     assert not outcomes(said).keys() & set(PLANTED)
     assert re.search(rf"^FAILED: .*{NAME}/{PLANTED[1]} ", said, re.M), said + runs().of_the_gate.stderr
+
+
+def test_the_thirds_share_the_crates_that_have_mutants() -> None:
+    with tempfile.TemporaryDirectory(prefix="test-refused-") as folder:
+        for name in "abdef":
+            place = pathlib.Path(folder, name, "refused", "one.edit")
+            place.parent.mkdir(parents=True)
+            place.touch()
+        crates = [SimpleNamespace(name=name, folder=f"{folder}/{name}") for name in "abcdef"]
+        thirds = [[crate.name for crate in command.third_of(crates, number)] for number in range(3)]
+    assert thirds == [["a", "e"], ["b", "f"], ["d"]]
 
 
 def test_a_closure_counts_for_its_function() -> None:

@@ -4,7 +4,8 @@ must refuse each.
 Without an option it tries the mutants of the given crates, or of all. --changed leaves out crates whose files are those
 of the last run that passed on this machine. --over-gate tries only those in refused/, over the libraries that `rt ci`
 has just proved in this folder; FOLDER/CRATE has what its checks kept, if anything. Of those in planted/ it only checks
-that their text is still there. --note writes into each file without notes, or with notes that do not hold any more,
+that their text is still there; with --third N it tries those of every third crate, from the Nth on, and of the others
+only checks their text. --note writes into each file without notes, or with notes that do not hold any more,
 which clauses it breaks and which goals it leaves open. --uncovered tries nothing: it lists the named clauses of public
 calls that say less than an equation and that no mutant names, and the reason in a crate's refused/unbreakable.txt if no
 body can break one.
@@ -122,10 +123,19 @@ def lanes_of(asked: int) -> int:
     return asked or max(1, min(kit.rt.processors(), int(kit.rt.free() / MOST)))
 
 
-def misplaced(crates: list[Any]) -> list[str]:
-    """The mutants in planted/ whose text is not in its file exactly once: the gate tries none of them, but notices those that no longer apply."""
+def misplaced(crates: list[Any], tried_crates: list[Any]) -> list[str]:
+    """The mutants that the gate does not try and whose text is not in its file exactly once: those in planted/, and those in refused/ of crates whose turn it is not."""
     edits = [edit for crate in crates for edit in edit_files.read_all(crate, [edit_files.PLANTED])]
+    others = [crate for crate in crates if crate not in tried_crates]
+    edits += [edit for crate in others for edit in edit_files.read_all(crate, [edit_files.REFUSED])]
     return [f"{edit.label()} ({edit.fault})" for edit in edits if edit.fault]
+
+
+def third_of(crates: list[Any], number: int | None) -> list[Any]:
+    """Every third of the crates that have mutants in refused/, from this number on; all crates without a number."""
+    if number is None:
+        return crates
+    return [crate for crate in crates if any(pathlib.Path(crate.folder, edit_files.REFUSED).glob("*.edit"))][number::3]
 
 
 def try_all(crates: list[Any], given: argparse.Namespace) -> tuple[int, list[str]]:
@@ -181,6 +191,9 @@ def add_arguments(parser: argparse.ArgumentParser) -> None:
     parser.add_argument(
         "--over-gate", metavar="FOLDER", help="only those in refused/, over what `rt ci` has just proved"
     )
+    parser.add_argument(
+        "--third", metavar="N", type=int, choices=range(3), help="with --over-gate: only of every third crate (0 to 2)"
+    )
     parser.add_argument("--uncovered", action="store_true", help="list the clauses that no mutant names")
     parser.add_argument("--note", action="store_true", help="write notes into the files")
     parser.add_argument("--folder", metavar="NAME", help="those in crates/*/NAME instead of refused/ and planted/")
@@ -202,8 +215,9 @@ def run(asked: argparse.Namespace) -> int:
     chosen = [all_crates[name] for name in asked.crates or all_crates]
     if asked.uncovered:
         return clauses.list_uncovered([crate.name for crate in chosen])
-    passing, failed = try_all(chosen, asked)
-    failed += misplaced(chosen) if asked.over_gate else []
+    in_turn = third_of(chosen, asked.third)
+    passing, failed = try_all(in_turn, asked)
+    failed += misplaced(chosen, in_turn) if asked.over_gate else []
     if failed:
         print(f"FAILED: {' '.join(failed)}")
     print(f"{passing} passed, {len(failed)} failed")
