@@ -111,7 +111,7 @@ def test_all_parts_run_after_the_proofs(ran: list[str]) -> None:
     assert ran[0] == "rt ci" and len(results) == len(ran) == 6
     assert "tools/beside-linux 300" in ran
     mutants = [part for part in ran if part.startswith("tools/refused --over-gate")]
-    assert [part.split()[-2:] for part in mutants] == [["--third", str(command.third_of_commit())]]
+    assert [part.split()[-3:] for part in mutants] == [["--changed", "--also", str(command.number_of_commit())]]
 
 
 def test_nothing_runs_after_proofs_that_fail(monkeypatch: pytest.MonkeyPatch) -> None:

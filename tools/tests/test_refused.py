@@ -18,7 +18,7 @@ import subprocess
 import tempfile
 from types import SimpleNamespace
 
-from heskavo.refused import answers, clauses, command, edits as edit_files, goals, kit, rounds
+from heskavo.refused import answers, clauses, command, edits as edit_files, goals, kit, passed, rounds
 from heskavo.repository import TOOLS
 
 NAME = "small_for_refused"
@@ -266,15 +266,21 @@ def test_over_the_gate_those_in_planted_are_not_tried() -> None:
     assert re.search(rf"^FAILED: .*{NAME}/{PLANTED[1]} ", said, re.M), said + runs().of_the_gate.stderr
 
 
-def test_the_thirds_share_the_crates_that_have_mutants() -> None:
+def test_crates_that_changed_are_tried_and_one_that_did_not() -> None:
     with tempfile.TemporaryDirectory(prefix="test-refused-") as folder:
-        for name in "abdef":
-            place = pathlib.Path(folder, name, "refused", "one.edit")
-            place.parent.mkdir(parents=True)
-            place.touch()
-        crates = [SimpleNamespace(name=name, folder=f"{folder}/{name}") for name in "abcdef"]
-        thirds = [[crate.name for crate in command.third_of(crates, number)] for number in range(3)]
-    assert thirds == [["a", "e"], ["b", "f"], ["d"]]
+        crates = [SimpleNamespace(name=name, folder=f"{folder}/{name}") for name in "abcd"]
+        for crate in crates[:3]:
+            for name in ("src/lib.rt", "refused/one.edit"):
+                place = pathlib.Path(crate.folder, name)
+                place.parent.mkdir(parents=True)
+                place.touch()
+            passed.note(crate)
+        pathlib.Path(crates[1].folder, "src/lib.rt").write_text("//! Changed.\n")
+        tried = [
+            [crate.name for crate in command.in_turn(crates, SimpleNamespace(changed=changed, also=also))]
+            for changed, also in ((False, None), (True, None), (True, 1), (True, 5))
+        ]
+    assert tried == [["a", "b", "c", "d"], ["b"], ["b"], ["b", "c"]]
 
 
 def test_a_closure_counts_for_its_function() -> None:

@@ -1,9 +1,9 @@
 """The gate: proofs, tests, programs and the mutants that the prover must refuse.
 
 Each part prints what it passed, and the last line adds them up: 'N passed, M failed'. If the proofs fail, the other
-parts are not run. The mutants are those of a third of the crates, which the commit's hash chooses. Before the last line
-come the processor minutes of each crate, and the processor time of all parts. With a COMMAND it runs only that, and
-prints the processor minutes of the checks that it starts.
+parts are not run. The mutants are those of crates that changed since all of theirs were refused, and of one more crate,
+which the commit's hash chooses. Before the last line come the processor minutes of each crate, and the processor time of
+all parts. With a COMMAND it runs only that, and prints the processor minutes of the checks that it starts.
 
 One check runs on each processor, with one job: several jobs of one check would take more processor time. Results kept by
 an earlier run take no time and are listed above the table: to measure the whole gate, run it in a fresh clone without
@@ -23,11 +23,11 @@ from heskavo.repository import ROOT
 ALLOCATOR = {"MIMALLOC_ALLOW_LARGE_OS_PAGES": "1", "MIMALLOC_PURGE_DELAY": "-1"}
 
 
-def third_of_commit() -> int:
-    """Returns which third of the crates' mutants the gate tries for this commit, 0 to 2: its hash decides."""
+def number_of_commit() -> int:
+    """Returns the commit's hash as a number: it chooses the crate whose mutants are tried although it has not changed."""
     words = ["git", "rev-parse", "HEAD"]
     found = subprocess.run(words, cwd=ROOT, capture_output=True, text=True, check=False).stdout.strip()
-    return int(found or "0", 16) % 3
+    return int(found or "0", 16)
 
 
 def run_all(times: Times) -> list[parts.Result]:
@@ -36,9 +36,9 @@ def run_all(times: Times) -> list[parts.Result]:
         kept = Path(name)
         results = [parts.run(["rt", "ci"], times, kept)]
         if results[0].failed == 0:
-            third = str(third_of_commit())
+            also = str(number_of_commit())
             results += [
-                parts.run(["tools/refused", "--over-gate", name, "--third", third], times),
+                parts.run(["tools/refused", "--over-gate", name, "--changed", "--also", also], times),
                 parts.run(["tools/refused", "--uncovered"]),
                 parts.run(unit_tests.command("test_refused.py", "test_header.py")),
                 parts.run(["tools/check"]),

@@ -1,11 +1,11 @@
 """Tries mutants: the wrong bodies in crates/*/refused and crates/*/planted, many of them in one prover run. The prover
 must refuse each.
 
-Without an option it tries the mutants of the given crates, or of all. --changed leaves out crates whose files are those
-of the last run that passed on this machine. --over-gate tries only those in refused/, over the libraries that `rt ci`
-has just proved in this folder; FOLDER/CRATE has what its checks kept, if anything. Of those in planted/ it only checks
-that their text is still there; with --third N it tries those of every third crate, from the Nth on, and of the others
-only checks their text. --note writes into each file without notes, or with notes that do not hold any more,
+Without an option it tries the mutants of the given crates, or of all. If all those of a crate in refused/ are refused,
+it writes the checksum of the crate's files to refused/passed.txt, which is committed; --changed leaves out crates whose
+files still have that checksum, except for one, which --also N chooses. --over-gate tries only those in refused/, over
+the libraries that `rt ci` has just proved in this folder; FOLDER/CRATE has what its checks kept, if anything. Of all
+others it only checks that their text is still there, and it writes no checksums. --note writes into each file without notes, or with notes that do not hold any more,
 which clauses it breaks and which goals it leaves open. --uncovered tries nothing: it lists the named clauses of public
 calls that say less than an equation and that no mutant names, and the reason in a crate's refused/unbreakable.txt if no
 body can break one.
@@ -131,11 +131,13 @@ def misplaced(crates: list[Any], tried_crates: list[Any]) -> list[str]:
     return [f"{edit.label()} ({edit.fault})" for edit in edits if edit.fault]
 
 
-def third_of(crates: list[Any], number: int | None) -> list[Any]:
-    """Every third of the crates that have mutants in refused/, from this number on; all crates without a number."""
-    if number is None:
+def in_turn(crates: list[Any], asked: argparse.Namespace) -> list[Any]:
+    """The crates whose mutants are tried: all, or with --changed those that changed since all were refused, and one more."""
+    if not asked.changed:
         return crates
-    return [crate for crate in crates if any(pathlib.Path(crate.folder, edit_files.REFUSED).glob("*.edit"))][number::3]
+    have_some = [crate for crate in crates if any(pathlib.Path(crate.folder, edit_files.REFUSED).glob("*.edit"))]
+    one = [have_some[asked.also % len(have_some)]] if have_some and asked.also is not None else []
+    return [crate for crate in have_some if crate in one or not passed.is_noted(crate)]
 
 
 def try_all(crates: list[Any], given: argparse.Namespace) -> tuple[int, list[str]]:
@@ -150,16 +152,15 @@ def try_all(crates: list[Any], given: argparse.Namespace) -> tuple[int, list[str
     )
     for crate in crates:
         edits = edit_files.read_all(crate, folders)
-        stamp = passed.stamp(crate, edits)
-        if edits and not (given.changed and passed.is_noted(crate, stamp)):
-            work.append((crate, edits, stamp))
+        if edits:
+            work.append((crate, edits))
     work.sort(key=lambda it: -it[0].count(rb"\n"))
     passing = 0
     failed: list[str] = []
     warned: list[str] = []
     with concurrent.futures.ThreadPoolExecutor(lanes_of(given.lanes)) as pool:
-        runs = [(crate, edits, stamp, pool.submit(tried, crate, edits, given)) for crate, edits, stamp in work]
-        for crate, edits, stamp, run in runs:
+        runs = [(crate, edits, pool.submit(tried, crate, edits, given)) for crate, edits in work]
+        for crate, edits, run in runs:
             outcomes = run.result()
             if outcomes is None:
                 failed += [edit.label() for edit in edits]
@@ -175,8 +176,8 @@ def try_all(crates: list[Any], given: argparse.Namespace) -> tuple[int, list[str
                 failed + bad,
                 warned + shows_nothing,
             )
-            if not bad:
-                passed.note(crate, stamp)
+            if not bad and edit_files.REFUSED in folders and not given.over_gate:
+                passed.note(crate)
     if warned:
         print(
             f"warning: these in planted/ leave no goal open that the right body closes ({len(warned)}): {' '.join(warned)}"
@@ -187,12 +188,12 @@ def try_all(crates: list[Any], given: argparse.Namespace) -> tuple[int, list[str
 def add_arguments(parser: argparse.ArgumentParser) -> None:
     """Adds the crates and the options."""
     parser.add_argument("crates", metavar="CRATE", nargs="*", help="only the mutants of these crates")
-    parser.add_argument("--changed", action="store_true", help="only of crates that changed since their mutants passed")
+    parser.add_argument("--changed", action="store_true", help="only of crates that changed since all were refused")
     parser.add_argument(
         "--over-gate", metavar="FOLDER", help="only those in refused/, over what `rt ci` has just proved"
     )
     parser.add_argument(
-        "--third", metavar="N", type=int, choices=range(3), help="with --over-gate: only of every third crate (0 to 2)"
+        "--also", metavar="N", type=int, help="with --changed: also of the crate with this number, counted round"
     )
     parser.add_argument("--uncovered", action="store_true", help="list the clauses that no mutant names")
     parser.add_argument("--note", action="store_true", help="write notes into the files")
@@ -215,9 +216,9 @@ def run(asked: argparse.Namespace) -> int:
     chosen = [all_crates[name] for name in asked.crates or all_crates]
     if asked.uncovered:
         return clauses.list_uncovered([crate.name for crate in chosen])
-    in_turn = third_of(chosen, asked.third)
-    passing, failed = try_all(in_turn, asked)
-    failed += misplaced(chosen, in_turn) if asked.over_gate else []
+    tried_crates = in_turn(chosen, asked)
+    passing, failed = try_all(tried_crates, asked)
+    failed += misplaced(chosen, tried_crates) if asked.over_gate else []
     if failed:
         print(f"FAILED: {' '.join(failed)}")
     print(f"{passing} passed, {len(failed)} failed")

@@ -1,34 +1,30 @@
-"""Which crates' mutants all passed on this machine, by a sum of all that such a run reads."""
+"""Which crates' mutants in refused/ were all refused: a crate's refused/passed.txt has the checksum that its files had then."""
 import hashlib
-import os
 import pathlib
-from collections.abc import Iterable
 from typing import Any
 
-STORE = pathlib.Path(os.environ.get("XDG_CACHE_HOME") or pathlib.Path.home() / ".cache") / "heskavo-refused"
+FOLDERS = ("src", "specs", "proofs", "refused")
+NOTE = "refused/passed.txt"
 
 
-def stamp(crate: Any, edits: Iterable[Any]) -> str:
-    """A sum of the crate's files, those of the libraries below it, the kit, and the edits."""
-    sum_of_all = hashlib.sha256(crate.stamp().encode())
-    for edit in edits:
-        sum_of_all.update(repr((edit.name, edit.path.read_bytes())).encode())
+def checksum(crate: Any) -> str:
+    """The checksum of the crate's sources and of its mutants in refused/."""
+    folder = pathlib.Path(crate.folder)
+    files = sorted(path for part in FOLDERS for path in (folder / part).rglob("*") if path.is_file())
+    sum_of_all = hashlib.sha256()
+    for path in files:
+        name = path.relative_to(folder).as_posix()
+        if name != NOTE:
+            sum_of_all.update(repr((name, path.read_bytes())).encode())
     return sum_of_all.hexdigest()
 
 
-def is_noted(crate: Any, stamp_now: str) -> bool:
-    try:
-        return stamp_now in (STORE / crate.name).read_text().split()
-    except OSError:
-        return False
+def is_noted(crate: Any) -> bool:
+    """Whether all were refused with the files as they are."""
+    note_of_crate = pathlib.Path(crate.folder, NOTE)
+    return note_of_crate.is_file() and note_of_crate.read_text().strip() == checksum(crate)
 
 
-def note(crate: Any, stamp_now: str) -> None:
-    """Notes that all passed; the last twenty are kept, since several checkouts may be at work."""
-    try:
-        STORE.mkdir(parents=True, exist_ok=True)
-        place = STORE / crate.name
-        earlier = place.read_text().split() if place.exists() else []
-        place.write_text("\n".join([it for it in earlier if it != stamp_now][-19:] + [stamp_now]) + "\n")
-    except OSError:
-        pass
+def note(crate: Any) -> None:
+    """Notes that all were refused."""
+    pathlib.Path(crate.folder, NOTE).write_text(f"{checksum(crate)}\n")
