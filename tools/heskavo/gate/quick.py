@@ -130,7 +130,7 @@ def checks() -> list[Check]:
         Check("documents", command(TOOLS / "check")),
         Check("gate", unit_test("test_gate.py")),
         Check("checks of documents", unit_test("test_documents.py")),
-        Check("builds without proof", unit_test("test_program.py")),
+        Check("builds without proof", unit_test("test_program.py", "test_calls.py")),
         Check("python", python),
     ]
 
