@@ -13,7 +13,7 @@ ghost use Rattle.rb_interp.specs.inner.KeptPointers.{filled, IsSlotPlace};
 use crate::byte_numbers::put_number;
 use crate::compiler_facts::known;
 use crate::pointer_table::PointerTable;
-use crate::slot_table::{SlotEntry, entry_of, without};
+use crate::slot_table::{SlotEntry, entry_of, remove_entries};
 use crate::{Context, Part, Parts};
 use arrayvec::ArrayVec;
 use rb_insn::Size;
@@ -76,7 +76,7 @@ impl<C, R> MachineMemory<C, R> {
         requires fresh { held_record id self.old.records ≡ None }
         ensures { self.new ≡ record self.old { records = self.old.records ++ (id, owned) ∷ [] } }
     {
-        match self.parts.hold(owned) {
+        match self.parts.records.hold(owned) {
             Ok(slot) => self.entries.push(SlotEntry { id, slot }),
             Err(_) => {
                 known(false);
@@ -95,11 +95,11 @@ impl<C, R> MachineMemory<C, R> {
             known(false);
             unreachable!()
         };
-        let Some(owned) = self.parts.give(entry.slot) else {
+        let Some(owned) = self.parts.records.give(entry.slot) else {
             known(false);
             unreachable!()
         };
-        self.entries = without(&self.entries, id);
+        remove_entries(&mut self.entries, id);
         owned
     }
 }

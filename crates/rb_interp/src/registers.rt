@@ -84,7 +84,8 @@ impl Registers {
     pub(crate) fn get(&self, reg: Reg) -> Value
         ensures { result ≡ slice_index_or self.now reg.number Nothing }
     {
-        shown(self.kinds[reg.index()], self.numbers[reg.index()])
+        let at = reg.index();
+        shown(self.kinds[at], self.numbers[at])
     }
 
     #[inline(always)]
@@ -134,8 +135,21 @@ impl Registers {
         ensures { self.new ≡ slice_set self.old reg.number value }
     {
         let (kind, number) = kept(value);
-        self.kinds[reg.index()] = kind;
-        self.numbers[reg.index()] = number;
+        let at = reg.index();
+        self.kinds[at] = kind;
+        self.numbers[at] = number;
+    }
+
+    #[inline(always)]
+    /// Makes r1 to r5, which pass a call's arguments, unreadable.
+    pub(crate) fn clear_arguments(&mut self)
+        ensures { self.new ≡ slice_set (slice_set (slice_set (slice_set (slice_set self.old 1 Nothing) 2 Nothing) 3 Nothing) 4 Nothing) 5 Nothing }
+    {
+        self.kinds[1] = Kind::Nothing;
+        self.kinds[2] = Kind::Nothing;
+        self.kinds[3] = Kind::Nothing;
+        self.kinds[4] = Kind::Nothing;
+        self.kinds[5] = Kind::Nothing;
     }
 
     #[inline(always)]

@@ -34,15 +34,9 @@ pub(crate) fn entry_of(entries: &[SlotEntry], id: u32) -> Option<SlotEntry>
     None
 }
 
-/// Returns the entries with other names, in order.
-pub(crate) fn without(entries: &ArrayVec<SlotEntry, 4>, id: u32) -> ArrayVec<SlotEntry, 4>
-    ensures { result.items ≡ filter (other_entry_than id) entries.now.items }
+/// Removes the entries with this name.
+pub(crate) fn remove_entries(entries: &mut ArrayVec<SlotEntry, 4>, id: u32)
+    ensures { entries.new.items ≡ filter (other_entry_than id) entries.old.items }
 {
-    let mut rest = ArrayVec::new();
-    for entry in entries.as_slice() {
-        if entry.id != id {
-            rest.push(*entry);
-        }
-    }
-    rest
+    entries.retain(|entry| entry.id != id);
 }

@@ -70,8 +70,7 @@ IsRightFault text ctx_len rings Text = IsNoHex text
 IsRightFault text ctx_len rings (Decode kind unit) = HasFirstDecodeFault text kind unit
 IsRightFault text ctx_len rings (Shape kind unit) = HasFirstShapeFault text kind unit
 IsRightFault text ctx_len rings (Verify number unit) = HasFirstBrokenRule text ctx_len rings number unit
-IsRightFault text ctx_len rings Memory = Unit {0}
-IsRightFault text ctx_len rings Device = Unit {0}
+IsRightFault text ctx_len rings _ = Unit {0}
 
 -- ---- faults of lower layers, as faults of a program
 

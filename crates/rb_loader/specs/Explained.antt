@@ -29,10 +29,8 @@ pub record ExplainsAccepted (portable : Bool) (form : LineForm) (text : List ℕ
   pub told_is : told ≡ explanation ++ findings
 
 -- exactly that was printed
-pub record PrintsExplanation (portable : Bool) (form : LineForm) (text : List ℕ) (ctx_len rings : ℕ) (before after : Option (List ℕ)) : Type 0 where
-  pub told : List ℕ
-  pub explained : ExplainsAccepted portable form text (record { ctx_len = ctx_len; rings = rings }) told
-  pub printed : Appends before after told
+abbrev pub PrintsExplanation : Bool → LineForm → List ℕ → (ctx_len rings : ℕ) → (before after : Option (List ℕ)) → Type 0
+PrintsExplanation portable form text ctx_len rings before after = (told : List ℕ) × ExplainsAccepted portable form text (record { ctx_len = ctx_len; rings = rings }) told × Appends before after told
 
 -- exactly the explanation of a refusal was printed, and this is the fault that it explains
 pub record ExplainsFault (form : LineForm) (text : List ℕ) (ctx_len rings : ℕ) (before after : Option (List ℕ)) (fault : ProgramFault) : Type 0 where

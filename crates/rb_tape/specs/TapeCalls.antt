@@ -46,16 +46,13 @@ pub data TapeCall : Type 0 where
 
 abbrev pub records_begun : TapeCall → List Item
 records_begun (Put item) = item ∷ []
-records_begun (Resume item) = []
 records_begun (PutAll items) = items
-records_begun WriteOut = []
+records_begun _ = []
 
 -- the record that must be unfinished before the call
 abbrev pub unfinished_before : TapeCall → Option Item
-unfinished_before (Put item) = None
 unfinished_before (Resume item) = Some item
-unfinished_before (PutAll items) = None
-unfinished_before WriteOut = None
+unfinished_before _ = None
 
 -- the number of failed calls after one more call, which returned Ok or not
 abbrev pub failures_after : ℕ → Bool → ℕ

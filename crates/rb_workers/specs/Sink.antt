@@ -4,7 +4,7 @@ use Rattle.std.specs.Prelude.{◌≡◌, ℕ, true, List, [], ◌∷◌, ◌++�
 use Rattle.std.specs.List.{Contains, filter_map}
 use Rattle.std.specs.FinMap.{get}
 use Rattle.rb_history.specs.declared.answers.Taken.{Taken}
-use Rattle.rb_history.specs.declared.answers.Taken.TheVariants.{Event, Skipped, BusyFront, Empty}
+use Rattle.rb_history.specs.declared.answers.Taken.TheVariants.{Event, Skipped}
 use Rattle.rb_history.specs.declared.entries.Entry.{Entry}
 use Rattle.rb_history.specs.declared.entries.Entry.TheVariants.{Res, Take}
 use Rattle.rb_history.specs.History.{is_submitted_at, is_discarded_at}
@@ -24,8 +24,7 @@ pub data SinkItem : Type 0 where
 -- the item's record, if it is one
 abbrev pub sink_record : SinkItem → Option Taken
 sink_record (Record taken) = Some taken
-sink_record (Chapter chapter) = None
-sink_record CaughtUp = None
+sink_record _ = None
 
 -- the records among the items, in order
 abbrev pub records_among : List SinkItem → List Taken
@@ -34,17 +33,13 @@ records_among items = filter_map sink_record items
 -- how far the item advances a sink's position
 abbrev pub sink_span : SinkItem → ℕ
 sink_span (Record taken) = span_in taken
-sink_span (Chapter chapter) = 0
-sink_span CaughtUp = 0
+sink_span _ = 0
 
 -- the position of the item's record, if it is a record
 abbrev pub sink_position : SinkItem → Option ℕ
 sink_position (Record (Event position worker serial bytes)) = Some position
 sink_position (Record (Skipped position len)) = Some position
-sink_position (Record BusyFront) = None
-sink_position (Record Empty) = None
-sink_position (Chapter chapter) = None
-sink_position CaughtUp = None
+sink_position _ = None
 
 -- the positions of the records among the items, in order
 abbrev pub positions_among : List SinkItem → List ℕ
@@ -52,9 +47,8 @@ positions_among items = filter_map sink_position items
 
 -- the item's chapter, if it is one
 abbrev pub sink_chapter : SinkItem → Option RingChapter
-sink_chapter (Record taken) = None
 sink_chapter (Chapter chapter) = Some chapter
-sink_chapter CaughtUp = None
+sink_chapter _ = None
 
 -- the chapters among the items, in order
 abbrev pub chapters_among : List SinkItem → List RingChapter
@@ -80,10 +74,8 @@ takes_in h = filter_map take_of h
 abbrev pub IsRecordIn : List Entry → Contents → SinkItem → Type 0
 IsRecordIn h got (Record (Event p w k bytes)) = Contains h (Res w k (length bytes) p) × (is_submitted_at h p ≡ true) × (get got p ≡ Some bytes)
 IsRecordIn h got (Record (Skipped p n)) = HasLength h p n × (is_discarded_at h p ≡ true)
-IsRecordIn h got (Record BusyFront) = ⊥
-IsRecordIn h got (Record Empty) = ⊥
-IsRecordIn h got (Chapter chapter) = Unit {0}
-IsRecordIn h got CaughtUp = Unit {0}
+IsRecordIn h got (Record _) = ⊥
+IsRecordIn h got _ = Unit {0}
 
 -- While the consumer's seat went from `before` to `after`, and the whole history became this one, the sink was given
 -- exactly the records that were taken meanwhile, one by one, in the order in which they were taken and with the bytes

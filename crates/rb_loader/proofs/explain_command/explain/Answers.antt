@@ -31,9 +31,8 @@ returns-clause-explained g c =
     let limits : Limits = record { ctx_len = c.args.bounds.ctx_len; rings = c.args.bounds.rings } in
     let text = c.as_str-text.result.now in
     let told = string_bytes c.in-Ok.explanation.text in
-    holds_for_input _ (g.R.Read.remaining c.args.input.now) _ text c.as_str-text.ensures.value c.in_ok-text.ensures.stands (λ unread stands.
-    record {
-      told = told;
-      explained = accepted_explained unread text stands c.args.portable c.args.form limits told (subst (λ reason. ExplainsText c.args.portable c.args.form text limits reason told) c.in-None.is c.in-Ok.ensures.explained);
-      printed = subst (Appends _ _) c.as_bytes.ensures.value c.in-Ok-write_whole.ensures.whole;
-    })
+    holds_for_input _ (g.R.Read.remaining c.args.input.now) _ text c.as_str-text.ensures.value c.in_ok-text.ensures.stands (λ unread stands. (
+      told,
+      accepted_explained unread text stands c.args.portable c.args.form limits told (subst (λ reason. ExplainsText c.args.portable c.args.form text limits reason told) c.in-None.is c.in-Ok.ensures.explained),
+      subst (Appends _ _) c.as_bytes.ensures.value c.in-Ok-write_whole.ensures.whole,
+    ))

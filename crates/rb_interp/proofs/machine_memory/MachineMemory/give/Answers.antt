@@ -23,7 +23,7 @@ invariant_of-self g c =
     let es = c.self.inside.entries.items in
     let h = c.self.inside.parts.records in
     let found : find (entry_has_id c.args.id) es ≡ Some c.in-Some.entry = ap (find (entry_has_id c.args.id)) (sym c.as_slice.ensures.value) ∙ (sym c.entry_of.ensures ∙ c.in-Some.is) in
-    rw (c.without-self-inside.ensures, c.give.ensures.records)
+    rw (c.remove_entries.ensures, c.give.ensures.rest)
     (table_without es h c.args.id c.in-Some.entry c.in-Some-give.owned c.self.invariant found (sym c.give.ensures.value ∙ c.in-Some-give.is))
 
 pub returns-clause-given : goal.returns-clause-given
@@ -38,4 +38,4 @@ returns-clause-rest g c =
     let es = c.self.inside.entries.items in
     let h = c.self.inside.parts.records in
     let found : find (entry_has_id c.args.id) es ≡ Some c.in-Some.entry = ap (find (entry_has_id c.args.id)) (sym c.as_slice.ensures.value) ∙ (sym c.entry_of.ensures ∙ c.in-Some.is) in
-    rw (← c.self.view_is, c.without-self-inside.ensures, c.give.ensures.records, c.give.ensures.stack, c.give.ensures.context, shown_without es h c.args.id c.in-Some.entry c.self.invariant found) refl
+    rw (← c.self.view_is, c.remove_entries.ensures, c.give.ensures.rest, shown_without es h c.args.id c.in-Some.entry c.self.invariant found) refl

@@ -26,4 +26,4 @@ pub returns : goal.returns
 returns g c =
     let es = c.self.inside.entries.items in
     let h = c.self.inside.parts.records in
-    rw (← c.self.view_is, c.push.ensures.items, c.in-Ok.ensures.held, c.hold.ensures.stack, c.hold.ensures.context, shown_pushed es h c.args.id c.in-Ok.slot c.args.owned c.self.invariant (lowest_empty-empty h c.in-Ok.slot c.in-Ok.ensures.lowest)) refl
+    rw (← c.self.view_is, c.push.ensures.items, c.in-Ok.ensures.held, shown_pushed es h c.args.id c.in-Ok.slot c.args.owned c.self.invariant (lowest_empty-empty h c.in-Ok.slot c.in-Ok.ensures.lowest)) refl

@@ -13,4 +13,4 @@ returns c =
     let told = c.self.told in
     let bound = c.args.reg.bounded in
     let at = value_at kinds numbers i kind.Nothing 0 (omega (arith, told, bound)) (omega (arith, told, bound)) in
-    c.shown.ensures ∙ (ap (λ j. shown_value (get_or kinds j kind.Nothing) (get_or numbers c.index-2.result 0)) c.index.ensures.value ∙ (ap (λ j. shown_value (get_or kinds i kind.Nothing) (get_or numbers j 0)) c.index-2.ensures.value ∙ (sym at ∙ ap (λ (l : RegisterValues). get_or l i Nothing) c.self.view_is)))
+    c.shown.ensures ∙ (ap (λ j. shown_value (get_or kinds j kind.Nothing) (get_or numbers j 0)) c.index-at.ensures.value ∙ (sym at ∙ ap (λ (l : RegisterValues). get_or l i Nothing) c.self.view_is))

@@ -13,5 +13,5 @@ returns c =
     let told = c.self.told in
     let bound = c.args.reg.bounded in
     let done = value_set kinds numbers i k n (omega (arith, told, bound)) (omega (arith, told, bound)) in
-    ap (λ j. shown_values (set kinds j k) (set numbers c.index-2.result n)) c.index.ensures.value ∙ (ap (λ j. shown_values (set kinds i k) (set numbers j n)) c.index-2.ensures.value
-    ∙ (done ∙ (ap (λ v. set (shown_values kinds numbers) i v) c.kept-kind.ensures ∙ ap (λ (l : RegisterValues). set l i c.args.value) c.self.view_is)))
+    ap (λ j. shown_values (set kinds j k) (set numbers j n)) c.index-at.ensures.value
+    ∙ (done ∙ (ap (λ v. set (shown_values kinds numbers) i v) c.kept-kind.ensures ∙ ap (λ (l : RegisterValues). set l i c.args.value) c.self.view_is))
