@@ -97,13 +97,6 @@ impl<R: Read> FramedReader<R> {
         self.counts
     }
 
-    /// Returns the reader. Bytes that were read but not given yet are lost.
-    pub fn into_reader(self) -> R
-        ensures value { result ≡ self.reader }
-    {
-        self.reader
-    }
-
     // Takes the portion at the front of the window. Returns whether to continue.
     fn take_front(&mut self, piece: &mut Piece) -> bool
         requires open { self.old.over ≡ false }

@@ -13,8 +13,6 @@ mod framed_streams;
 #[cfg(test)]
 mod given;
 #[cfg(test)]
-mod held;
-#[cfg(test)]
 mod in_memory;
 #[cfg(test)]
 mod lines;
@@ -28,6 +26,8 @@ mod refused;
 mod runs;
 #[cfg(test)]
 mod service;
+#[cfg(test)]
+mod stalled_consumer;
 #[cfg(test)]
 mod waiting;
 #[cfg(test)]

@@ -1,11 +1,8 @@
 //! Checks on one abstract value. Each returns the first rule that is broken.
 
 ghost use Rattle.std.specs.Prelude.{◌≡◌};
-ghost use Rattle.rb_verifier.specs.ValueChecks.{check_writable, check_readable, check_number, check_tested, check_not_context, check_inside, check_ring, check_part_pointer, check_known_size, check_record_size, check_record_start};
+ghost use Rattle.rb_verifier.specs.ValueChecks.{check_writable, check_readable, check_number, check_tested, check_not_context, check_ring, check_part_pointer, check_known_size, check_record_size, check_record_start};
 
-use crate::extents::reaches;
-use crate::limits::Limits;
-use crate::references::Held;
 use crate::rule::Rule;
 use crate::value::Abs;
 use rb_insn::Reg;
@@ -65,24 +62,6 @@ pub(crate) fn check_not_context(value: Abs) -> Result<(), Rule>
         Abs::Unreadable => Err(Rule::Unreadable),
         Abs::Ctx(_) => Err(Rule::ContextWritten),
         _ => Ok(()),
-    }
-}
-
-/// Checks that the `len` bytes at `value + by` lie in the pointer's part. Fails if the value is not a pointer into a
-/// part.
-pub(crate) fn check_inside(
-    limits: Limits,
-    held: &Held,
-    value: Abs,
-    by: i64,
-    len: u64,
-) -> Result<(), Rule>
-    ensures { result ≡ check_inside limits held.now value by len }
-{
-    if reaches(limits, held, value, by, len) {
-        Ok(())
-    } else {
-        Err(Rule::OutsidePart)
     }
 }
 

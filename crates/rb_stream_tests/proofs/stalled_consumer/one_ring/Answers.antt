@@ -1,10 +1,10 @@
 use Rattle.std.proofs.Common.{List, [], ◌∷◌, sym, subst}
 use Rattle.std.proofs.lemmas.List.Elements.{All-cons, All-nil}
 use Rattle.rb_workers.specs.declared.opened.Opened.{Opened}
-use Rattle.rb_stream_tests.specs.declared.held.HeldSink.{HeldSink}
+use Rattle.rb_stream_tests.specs.declared.stalled_consumer.HeldSink.{HeldSink}
 use Rattle.rb_workers.specs.Opened.{AreOpened, IsOpened}
 use Rattle.rb_workers.proofs.Fresh.{all_opened}
-use Rattle.rb_stream_tests.proofs.held.one_ring.Goals as goal
+use Rattle.rb_stream_tests.proofs.stalled_consumer.one_ring.Goals as goal
 
 pub returns : goal.returns
 returns g c =
