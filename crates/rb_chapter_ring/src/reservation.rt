@@ -80,29 +80,20 @@ impl Reservation {
     }
 
     #[inline(always)]
-    /// Returns the record's sheet, with the bytes that were written.
-    pub(crate) fn into_sheet(self) -> Sheet
-        ensures value { result ≡ self.granted.bytes }
-    {
-        let Reservation { sheet, .. } = self;
-        sheet
-    }
-
-    #[inline(always)]
     /// Returns whether, of a worker's four hands, the one that the reservation names holds a record with its position,
     /// serial and length.
     pub fn is_in(&self, hands: &[Option<OutRecord>]) -> bool
         requires four { length hands.now ≡ 4 }
         ensures exact { IsTrue result ↔ (in_hand hands.now self.now.hand ≡ Some (out_record self.now.granted.pos self.now.granted.serial (length self.now.granted.bytes))) }
     {
-        let hand = self.hand();
+        let hand = self.hand;
         if hand >= 4 {
             return false;
         }
         match hands[hand as usize] {
             None => false,
             Some(out) => {
-                out.pos == self.pos() && out.serial == self.serial() && out.len == self.len()
+                out.pos == self.pos && out.serial == self.serial && out.len == self.sheet.len()
             }
         }
     }
