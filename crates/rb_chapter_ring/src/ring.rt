@@ -203,8 +203,11 @@ impl RingState {
     pub fn is_out(&self, reservation: &Reservation) -> bool
         ensures exact { IsTrue result ↔ HasInHand self.now.state reservation.now.hand reservation.now.granted }
     {
-        let worker = reservation.worker as usize;
-        worker < self.hands.len() && reservation.is_in(&self.hands[worker])
+        let (tag, worker) = (reservation.tag, reservation.worker);
+        let Some(hands) = self.hands.get(worker as usize) else {
+            return false;
+        };
+        reservation.held_hand(tag, worker, hands).is_some()
     }
 
     #[inline(always)]
