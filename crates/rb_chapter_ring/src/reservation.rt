@@ -1,6 +1,6 @@
 //! What a worker holds for a record that was granted to it.
 
-ghost use Rattle.std.specs.Prelude.{◌≡◌, ◌↔◌, IsTrue, Some, length};
+ghost use Rattle.std.specs.Prelude.{◌≡◌, ◌↔◌, IsSome, IfSome, Some, length};
 ghost use Rattle.rb_chapter_ring.specs.Hands.{in_hand, out_record};
 
 use crate::OutRecord;
@@ -80,30 +80,34 @@ impl Reservation {
     }
 
     #[inline(always)]
-    /// Returns the record's sheet, with the bytes that were written.
-    pub(crate) fn into_sheet(self) -> Sheet
-        ensures value { result ≡ self.granted.bytes }
+    /// Returns what the hand of a record of `len` bytes holds, with the reservation's position and serial.
+    pub fn out_record(&self, len: u32) -> OutRecord
+        ensures record { result ≡ out_record self.now.granted.pos self.now.granted.serial len }
     {
-        let Reservation { sheet, .. } = self;
-        sheet
+        OutRecord {
+            pos: self.pos,
+            serial: self.serial,
+            len,
+        }
     }
 
     #[inline(always)]
-    /// Returns whether, of a worker's four hands, the one that the reservation names holds a record with its position,
-    /// serial and length.
-    pub fn is_in(&self, hands: &[Option<OutRecord>]) -> bool
+    /// Returns the reservation's hand if its tag and its worker are these and, of the worker's four hands, that one
+    /// holds a record with its position, serial and length.
+    pub fn held_hand(&self, tag: u64, worker: u32, hands: &[Option<OutRecord>]) -> Option<u32>
         requires four { length hands.now ≡ 4 }
-        ensures exact { IsTrue result ↔ (in_hand hands.now self.now.hand ≡ Some (out_record self.now.granted.pos self.now.granted.serial (length self.now.granted.bytes))) }
+        ensures exact { IsSome result ↔ ((self.now.tag ≡ tag) × (self.now.granted.worker ≡ worker) × (in_hand hands.now self.now.hand ≡ Some (out_record self.now.granted.pos self.now.granted.serial (length self.now.granted.bytes)))) }
+        ensures hand { IfSome result (λ hand. hand ≡ self.now.hand) }
     {
-        let hand = self.hand();
-        if hand >= 4 {
-            return false;
+        let hand = self.hand;
+        if self.tag != tag || self.worker != worker || hand >= 4 {
+            return None;
         }
-        match hands[hand as usize] {
-            None => false,
-            Some(out) => {
-                out.pos == self.pos() && out.serial == self.serial() && out.len == self.len()
-            }
+        let out = hands[hand as usize]?;
+        if out.pos == self.pos && out.serial == self.serial && out.len == self.sheet.len() {
+            Some(hand)
+        } else {
+            None
         }
     }
 }

@@ -1,16 +1,15 @@
 //! A ring for one thread: its parts, and what is read of them.
 
-ghost use Rattle.std.specs.Prelude.{List, ◌≡◌, ◌<◌, ◌+◌, ◌↔◌, IfOk, IfSome, IfNone, IsErrOf, IsTrue, length};
+ghost use Rattle.std.specs.Prelude.{List, ◌≡◌, ◌<◌, ◌↔◌, IfOk, IfSome, IfNone, IsErrOf, IsTrue, length};
 ghost use Rattle.rb_history.specs.RingModel.{IsRingSize, IsStartPosition, IsWorkerCount};
 ghost use Rattle.rb_history.specs.declared.entries.Entry.{Entry};
-ghost use Rattle.rb_chapter_ring.specs.Chapters.{IsChapterRoom, closing_of};
+ghost use Rattle.rb_chapter_ring.specs.Chapters.{IsChapterRoom};
 ghost use Rattle.rb_chapter_ring.specs.CountedFrom.{query_answer_from};
 ghost use Rattle.rb_chapter_ring.specs.ChapterRing.{StandsForChapter};
 ghost use Rattle.rb_chapter_ring.specs.WholeHistory.{IsKept};
 ghost use Rattle.rb_chapter_ring.specs.OpenedRing.{IsChapterRingWithin, opened_ring, told_counts};
 ghost use Rattle.rb_chapter_ring.specs.Hands.{AreAllOut, IsLowestFree, free_book, hands_of};
 ghost use Rattle.rb_chapter_ring.specs.HandRing.{hand_ring, HasHands, HasInHand};
-ghost use Rattle.rb_chapter_ring.specs.inner.Ordinals.{taken_before};
 
 mod commit;
 mod hand_out;
@@ -204,8 +203,11 @@ impl RingState {
     pub fn is_out(&self, reservation: &Reservation) -> bool
         ensures exact { IsTrue result ↔ HasInHand self.now.state reservation.now.hand reservation.now.granted }
     {
-        let worker = reservation.worker() as usize;
-        worker < self.hands.len() && reservation.is_in(&self.hands[worker])
+        let (tag, worker) = (reservation.tag, reservation.worker);
+        let Some(hands) = self.hands.get(worker as usize) else {
+            return false;
+        };
+        reservation.held_hand(tag, worker, hands).is_some()
     }
 
     #[inline(always)]
@@ -214,23 +216,5 @@ impl RingState {
         ensures many { result ≡ length self.now.state.ring.shown }
     {
         self.chapter.closing().records().len()
-    }
-
-    #[inline(always)]
-    // Returns the number of records that were taken, which is the ordinal of the record at the front.
-    fn taken(&self) -> u64
-        ensures taken { result ≡ taken_before (closing_of self.now.state.ring.chapter) }
-    {
-        let numbers = self.chapter.closing().numbers();
-        numbers.consumed + numbers.skipped
-    }
-
-    #[inline(always)]
-    // Returns the ordinal of the record that is granted next.
-    fn next_ordinal(&self) -> u64
-        ensures ordinal { result ≡ taken_before (closing_of self.now.state.ring.chapter) + length (closing_of self.now.state.ring.chapter).records }
-    {
-        let numbers = self.chapter.closing().numbers();
-        numbers.consumed + numbers.skipped + self.many() as u64
     }
 }

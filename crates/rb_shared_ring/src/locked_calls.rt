@@ -13,7 +13,7 @@ ghost use Rattle.rb_chapter_ring.specs.Hands.{out_record, in_hand, IsFree};
 ghost use Rattle.rb_ledger.specs.NoStranger.{HoldsOwnBusy};
 ghost use Rattle.rb_shared_ring.specs.inner.HandPasses.{seen_with, bytes_with, room_with, hands_by, cut_by, IsIdleWith};
 ghost use Rattle.rb_shared_ring.specs.inner.HandCalls.{LeavesHands};
-ghost use Rattle.rb_shared_ring.specs.inner.LentState.{IsKeptHandRing, MayLend, MayCall, LendsState};
+ghost use Rattle.rb_shared_ring.specs.inner.LentState.{MayLend, MayCall, LendsState};
 ghost use Rattle.rb_shared_ring.specs.SharedCalls.{granted_in, hands_reserved, sent_by_output_in_room};
 ghost use Rattle.rb_shared_ring.specs.inner.ChapterAnswers.{ReservesInChapter, OutputsInChapter};
 
@@ -23,13 +23,6 @@ use rb_chapter_ring::{RecordEnd, Reservation, ReserveFault, RingState};
 use rb_history::Notice;
 use rb_lend::Sheet;
 use std::sync::Wait;
-
-/// States the invariant of the ring of one thread for the state.
-pub(crate) fn facts_of(state: &RingState)
-    ensures kept { IsKeptHandRing state.now.state }
-{
-    state.facts();
-}
 
 #[inline(always)]
 /// Takes the state out of the lock, lends it to one call, and puts it back.
@@ -50,7 +43,7 @@ pub(crate) fn with_state<R: Wait, T, F: FnOnce(&mut RingState) -> T>(
     let mut held = take_out(rt, lock, batch, pass);
     let state = held.as_mut();
     let answer = call(state);
-    facts_of(state);
+    state.facts();
     put_back(rt, lock, pass, held);
     answer
 }
@@ -123,7 +116,7 @@ pub(crate) fn reserve_with<R: Wait>(
     let state = held.as_mut();
     state.set_tag(tag);
     let answer = state.reserve(worker, hand, n, sheet);
-    facts_of(state);
+    state.facts();
     put_back(rt, lock, pass, held);
     answer
 }
@@ -157,7 +150,7 @@ pub(crate) fn settle_with<R: Wait>(
     let mut held = take_out(rt, lock, batch, pass);
     let state = held.as_mut();
     let notice = state.settle(reservation, end, flags);
-    facts_of(state);
+    state.facts();
     put_back(rt, lock, pass, held);
     notice
 }
@@ -188,7 +181,7 @@ pub(crate) fn output_with<R: Wait>(
     let mut held = take_out(rt, lock, batch, pass);
     let state = held.as_mut();
     let answer = state.output(worker, sheet, flags);
-    facts_of(state);
+    state.facts();
     put_back(rt, lock, pass, held);
     answer
 }

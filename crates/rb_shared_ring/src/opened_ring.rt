@@ -9,7 +9,6 @@ ghost use Rattle.rb_ledger.specs.ChapterSeats.{fresh_chapter_consumer};
 use crate::batch_flag::BatchFlag;
 use crate::consumer_seat::{ConsumerSeat, new_consumer};
 use crate::lock::{new_lock, put_first};
-use crate::locked_calls::facts_of;
 use crate::shared::SharedRing;
 use crate::worker_seat::{Seat, new_seat};
 use rb_chapter_ring::{OpenFault, RingState};
@@ -40,7 +39,7 @@ pub fn open<R: Wait>(
     ensures chapter { IsErrOf result OpenFault.Chapter ↔ (IsRingSize size × IsStartPosition start × IsWorkerCount workers × ¬ IsChapterRoom room) }
 {
     let state = RingState::new(alloc, tag, size, start, workers, room)?;
-    facts_of(&state);
+    state.facts();
     let Ok((lock, mut pass)) = new_lock(alloc) else {
         return Err(OpenFault::Memory);
     };

@@ -1,6 +1,6 @@
 //! A ring that threads share.
 
-ghost use Rattle.std.specs.Prelude.{◌≡◌, ◌≢◌, ◌≤◌, ◌↔◌, ◌⊎◌, Ok, IfOk, OnOk, IfErr, IsOk, IsErr, IsTrue, None, length, slice_set};
+ghost use Rattle.std.specs.Prelude.{◌≡◌, ◌≢◌, ◌≤◌, ◌↔◌, ◌⊎◌, Ok, IfOk, OnOk, IfErr, IsOk, IsErr, None, length, slice_set};
 ghost use Rattle.std.specs.FinMap.{insert};
 ghost use Rattle.rb_chapter_ring.specs.declared.faults.ReserveFault.TheVariants.{Foreign as FaultForeign, HandsFull};
 ghost use Rattle.rb_history.specs.Calls.{producer_now};
@@ -18,7 +18,7 @@ use crate::lock::Lock;
 use crate::locked_calls::{output_with, query_with, reserve_with, settle_with};
 use crate::tally::{after_end, after_output, after_reserve};
 use crate::worker_seat::Seat;
-use rb_chapter_ring::{OutRecord, RecordEnd, Reservation, ReserveFault, lowest_free};
+use rb_chapter_ring::{RecordEnd, Reservation, ReserveFault, lowest_free};
 use rb_history::Notice;
 use rb_lend::Sheet;
 use std::marker::Model;
@@ -128,23 +128,9 @@ impl SharedRing {
         );
         seat.tally = after_reserve(seat.tally, &answer);
         if let Ok(reservation) = &answer {
-            seat.hands[hand as usize] = Some(OutRecord {
-                pos: reservation.pos(),
-                serial: reservation.serial(),
-                len: n,
-            });
+            seat.hands[hand as usize] = Some(reservation.out_record(n));
         }
         answer
-    }
-
-    // Returns whether the seat may commit this reservation at the ring.
-    fn is_held_by(&self, seat: &Seat, reservation: &Reservation) -> bool
-        ensures exact { IsTrue result ↔ IsInSeatsHand self.now seat.now reservation.now }
-    {
-        seat.tag == self.tag
-            && reservation.tag() == seat.tag
-            && reservation.worker() == seat.worker
-            && reservation.is_in(&seat.hands)
     }
 
     #[inline(always)]
@@ -219,10 +205,13 @@ impl SharedRing {
         ensures sent { OnOk result (seat.new.sent ≡ sent_by_end end reservation.granted seat.old.sent) }
         ensures cut { seat.old.cut ≤ seat.new.cut }
     {
-        if !self.is_held_by(seat, &reservation) {
+        if seat.tag != self.tag {
             return Err(reservation);
         }
-        let (worker, hand) = (seat.worker, reservation.hand());
+        let worker = seat.worker;
+        let Some(hand) = reservation.held_hand(self.tag, worker, &seat.hands) else {
+            return Err(reservation);
+        };
         let notice = settle_with(
             rt,
             &self.lock,

@@ -19,7 +19,7 @@ ghost use Rattle.rb_shared_ring.specs.inner.HandPasses.{seen_with, bytes_with, r
 use crate::batch_flag::BatchFlag;
 use crate::consumer_seat::ConsumerSeat;
 use crate::lock::{Lock, RingPass, put_back, take_out};
-use crate::locked_calls::{facts_of, with_state};
+use crate::locked_calls::with_state;
 use crate::shared::{Foreign, SharedRing};
 use rb_history::{Taken, span};
 use std::sync::Wait;
@@ -73,7 +73,7 @@ fn take_many_with<R: Wait>(
     batch.set(true);
     let state = held.as_mut();
     let count = state.take_many(n, out);
-    facts_of(state);
+    state.facts();
     put_back(rt, lock, pass, held);
     batch.set(false);
     count
@@ -101,9 +101,15 @@ impl SharedRing {
             return Err(Foreign);
         }
         let answer = take_with(rt, &self.lock, &self.batch, &mut seat.pass);
-        seat.consumed += events(&answer);
-        seat.skipped += skips(&answer);
-        seat.position += span_taken(&answer);
+        let moves = moves_by(&answer);
+        let Moves {
+            events,
+            skips,
+            span,
+        } = moves;
+        seat.consumed += events;
+        seat.skipped += skips;
+        seat.position += span;
         Ok(answer)
     }
 
@@ -157,7 +163,7 @@ impl SharedRing {
     }
 }
 
-// What several takes add to the consumer's counts.
+// What takes add to the consumer's counts: the events, the skipped records, and how far they advance its position.
 struct Moves {
     events: u64,
     skips: u64,
@@ -179,40 +185,40 @@ fn moves_of(answers: &[Taken]) -> Moves
         span: 0,
     };
     for answer in answers {
-        moves.events += events(answer);
-        moves.skips += skips(answer);
-        moves.span += span_taken(answer);
+        let Moves {
+            events,
+            skips,
+            span,
+        } = moves_by(answer);
+        moves.events += events;
+        moves.skips += skips;
+        moves.span += span;
     }
     moves
 }
 
-// Returns the number of events in a result of `take`: 0 or 1.
-fn events(answer: &Taken) -> u64
-    ensures events { result ≡ events_in answer.now }
+#[inline(always)]
+// Returns what a result of `take` adds.
+fn moves_by(answer: &Taken) -> Moves
+    ensures events { result.events ≡ events_in answer.now }
+    ensures skips { result.skips ≡ skips_in answer.now }
+    ensures span { result.span ≡ span_in answer.now }
 {
     match answer {
-        Taken::Event(_, _, _, _) => 1,
-        _ => 0,
-    }
-}
-
-// Returns the number of records that a result of `take` skipped: 0 or 1.
-fn skips(answer: &Taken) -> u64
-    ensures skips { result ≡ skips_in answer.now }
-{
-    match answer {
-        Taken::Skipped(_, _) => 1,
-        _ => 0,
-    }
-}
-
-// Returns how far a result of `take` advances the consumer position.
-fn span_taken(answer: &Taken) -> u64
-    ensures span { result ≡ span_in answer.now }
-{
-    match answer {
-        Taken::Event(_, _, _, sheet) => span(sheet.len()),
-        Taken::Skipped(_, n) => span(*n),
-        _ => 0,
+        Taken::Event(_, _, _, sheet) => Moves {
+            events: 1,
+            skips: 0,
+            span: span(sheet.len()),
+        },
+        Taken::Skipped(_, n) => Moves {
+            events: 0,
+            skips: 1,
+            span: span(*n),
+        },
+        Taken::BusyFront | Taken::Empty => Moves {
+            events: 0,
+            skips: 0,
+            span: 0,
+        },
     }
 }

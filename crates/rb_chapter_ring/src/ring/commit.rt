@@ -6,7 +6,6 @@ ghost use Rattle.rb_history.specs.NoticesAndQueries.{IsDue};
 ghost use Rattle.rb_chapter_ring.specs.ChapterCalls.{IsSameChapter, consumer_by_chapter};
 ghost use Rattle.rb_chapter_ring.specs.RecordEnds.{EndsFromHand};
 ghost use Rattle.rb_chapter_ring.specs.HandRing.{HasInHand, SubmitsFromHand, DiscardsFromHand};
-ghost use Rattle.rb_chapter_ring.specs.inner.Ordinals.{HasBusyOrdinal};
 
 use crate::hand_table::set_hand;
 use crate::record_slots::{keep_bytes, slot_in};
@@ -57,26 +56,22 @@ impl RingState {
         ensures ended { EndsFromHand end reservation.hand reservation.granted self.old.state self.new.state }
         ensures notice { (result ≡ Due) ↔ IsDue (consumer_by_chapter self.old.state.ring) reservation.granted.pos flags }
     {
-        let pos = reservation.pos();
-        let worker = reservation.worker();
-        let hand = reservation.hand();
-        let notice = notice_for(self.chapter.closing().numbers().consumer, pos, flags);
-        let ordinal = self.ordinal_of(&reservation);
-        let index = (ordinal - self.taken()) as usize;
+        let Reservation {
+            pos,
+            worker,
+            hand,
+            sheet,
+            ..
+        } = reservation;
+        let numbers = self.chapter.closing().numbers();
+        let notice = notice_for(numbers.consumer, pos, flags);
+        let ordinal = self.ordinals[worker as usize][hand as usize];
+        let index = (ordinal - (numbers.consumed + numbers.skipped)) as usize;
         let slot = slot_in(self.sheets.len(), ordinal);
-        keep_bytes(&mut self.sheets, slot, reservation.into_sheet(), end);
+        keep_bytes(&mut self.sheets, slot, sheet, end);
         count_discard(&mut self.discarded, end);
         self.chapter.log_end(index, end);
         set_hand(&mut self.hands, worker, hand, None);
         notice
-    }
-
-    #[inline(always)]
-    // Returns the ordinal of the reservation's record, which is in its hand.
-    fn ordinal_of(&self, reservation: &Reservation) -> u64
-        requires out { HasInHand self.now.state reservation.now.hand reservation.now.granted }
-        ensures ordinal { HasBusyOrdinal self.now.state.ring reservation.now.granted result }
-    {
-        self.ordinals[reservation.worker() as usize][reservation.hand() as usize]
     }
 }

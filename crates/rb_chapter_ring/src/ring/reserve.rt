@@ -44,7 +44,9 @@ impl RingState {
         ensures handed_back { IfErr result (λ e. e.1 ≡ sheet) }
     {
         let mut sheet = sheet;
-        let ordinal = self.next_ordinal();
+        let closing = self.chapter.closing();
+        let numbers = closing.numbers();
+        let ordinal = numbers.consumed + numbers.skipped + closing.records().len() as u64;
         match self.chapter.grant(worker, n, &mut self.refused) {
             Err(fault) => Err((fault, sheet)),
             Ok((pos, serial)) => {

@@ -25,13 +25,15 @@ impl RingState {
         ensures empty { (result ≡ Empty) ↔ AllTakenByChapter self.old.state.ring }
         ensures same_hands { self.new.state.hands ≡ self.old.state.hands }
     {
-        let Some(front) = find_front(self.chapter.closing().records()) else {
+        let closing = self.chapter.closing();
+        let Some(front) = find_front(closing.records()) else {
             return Taken::Empty;
         };
         match front.status {
             UntakenStatus::Busy => Taken::BusyFront,
             UntakenStatus::Waiting => {
-                let slot = slot_in(self.sheets.len(), self.taken());
+                let numbers = closing.numbers();
+                let slot = slot_in(self.sheets.len(), numbers.consumed + numbers.skipped);
                 let sheet = self.sheets[slot].hand_out();
                 self.chapter.log_take();
                 Taken::Event(front.pos, front.worker, front.serial, sheet)

@@ -9,6 +9,7 @@ use Rattle.rb_ledger.specs.Roles.{Book}
 use Rattle.rb_ledger.specs.Seats.{IsBook, fresh_book, fresh_seat, fresh_seats}
 use Rattle.rb_ledger.proofs.Opens.{seats-more}
 use Rattle.rb_shared_ring.proofs.OpenedSeats.{first-ring, next-consumer, opened-book, next-worker}
+use Rattle.rb_shared_ring.proofs.LockedSteps.{kept-by-facts}
 use Rattle.rb_shared_ring.proofs.opened_ring.open.Goals as goal
 
 pub new_seat-seat-requires-clause-role : goal.new_seat-seat-requires-clause-role
@@ -23,7 +24,7 @@ pub new_seat-seat-requires-clause-book : goal.new_seat-seat-requires-clause-book
 new_seat-seat-requires-clause-book g c =
     let n = next-worker (fresh_book c.args.size c.args.start c.args.workers) _ _ _ _ c.loop-worker-test.true c.loop-worker.invariant.1 in
     let opened = c.in_ok-state.ensures.opened in
-    let book = opened-book _ _ _ _ _ (ap (λ (x : HandRing). x.ring) opened) (first-ring _ _ _ (ap (λ (x : HandRing). x.ring) opened) c.facts_of.ensures.kept.kept).0 in
+    let book = opened-book _ _ _ _ _ (ap (λ (x : HandRing). x.ring) opened) (first-ring _ _ _ (ap (λ (x : HandRing). x.ring) opened) (kept-by-facts _ c.facts.ensures.kept c.facts.ensures.stands c.facts.ensures.bounded c.facts.ensures.hands).kept).0 in
     (subst IsBook (sym n.seen_is) book, subst (λ (b : Book). c.loop-worker.worker < b.setup.workers) (sym n.seen_is) c.loop-worker-test.true)
 
 pub loop-worker-preserved : goal.loop-worker-preserved
@@ -40,19 +41,19 @@ loop-worker-preserved g c =
 pub new_consumer-consumer-requires-clause-book : goal.new_consumer-consumer-requires-clause-book
 new_consumer-consumer-requires-clause-book g c =
     let opened = c.in_ok-state.ensures.opened in
-    let book = opened-book _ _ _ _ _ (ap (λ (x : HandRing). x.ring) opened) (first-ring _ _ _ (ap (λ (x : HandRing). x.ring) opened) c.facts_of.ensures.kept.kept).0 in
+    let book = opened-book _ _ _ _ _ (ap (λ (x : HandRing). x.ring) opened) (first-ring _ _ _ (ap (λ (x : HandRing). x.ring) opened) (kept-by-facts _ c.facts.ensures.kept c.facts.ensures.stands c.facts.ensures.bounded c.facts.ensures.hands).kept).0 in
     let n = next-consumer c.in-Ok-new.state.value.state c.args.room c.args.size c.args.start c.args.workers (view c.put_first.new.pass) (view c.put_first.new.pass) (ap (λ (x : HandRing). x.ring) (ap (λ (x : TaggedRing). x.state) c.in-Ok-new.ensures.ok ∙ opened)) c.put_first.ensures.put in
     subst IsBook (sym n.seen_is) book
 
 pub put_first-requires-clause-opened : goal.put_first-requires-clause-opened
 put_first-requires-clause-opened g c =
-    subst (λ (x : TaggedRing). IsChapteredRing (chaptered_ring [] x.state.ring) × (x.state.ring.contents ≡ empty)) (sym c.in-Ok-new.ensures.ok) (first-ring _ _ _ (ap (λ (x : HandRing). x.ring) c.in_ok-state.ensures.opened) c.facts_of.ensures.kept.kept)
+    subst (λ (x : TaggedRing). IsChapteredRing (chaptered_ring [] x.state.ring) × (x.state.ring.contents ≡ empty)) (sym c.in-Ok-new.ensures.ok) (first-ring _ _ _ (ap (λ (x : HandRing). x.ring) c.in_ok-state.ensures.opened) (kept-by-facts _ c.facts.ensures.kept c.facts.ensures.stands c.facts.ensures.bounded c.facts.ensures.hands).kept)
 
 pub put_first-requires-clause-hands : goal.put_first-requires-clause-hands
 put_first-requires-clause-hands g c =
     let opened = c.in_ok-state.ensures.opened in
     let free : c.in_ok-state.state.state.hands ≡ free_book c.in_ok-state.state.state.ring.chapter.opening.setup.workers = ap (λ (x : HandRing). x.hands) opened ∙ sym (ap (λ (x : HandRing). free_book x.ring.chapter.opening.setup.workers) opened) in
-    subst (λ (x : TaggedRing). HasHands x.state × (x.state.hands ≡ free_book x.state.ring.chapter.opening.setup.workers)) (sym c.in-Ok-new.ensures.ok) (c.facts_of.ensures.kept.hands, free)
+    subst (λ (x : TaggedRing). HasHands x.state × (x.state.hands ≡ free_book x.state.ring.chapter.opening.setup.workers)) (sym c.in-Ok-new.ensures.ok) (c.facts.ensures.hands, free)
 
 pub returns-clause-seats : goal.returns-clause-seats
 returns-clause-seats g c =

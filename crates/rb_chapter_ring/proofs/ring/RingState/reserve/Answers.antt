@@ -1,4 +1,7 @@
-use Rattle.std.proofs.Common.{◌+◌, ◌<◌, length, refl, sym, ap, ◌∙◌, subst}
+use Rattle.std.proofs.Common.{◌≡◌, ◌+◌, ◌<◌, length, refl, sym, ap, ◌∙◌, subst}
+use Rattle.std.proofs.lemmas.List.{length-map}
+use Rattle.rb_chapter_ring.specs.Snapshot.{Snapshot}
+use Rattle.rb_chapter_ring.specs.UntakenRecords.{untaken_shown}
 use Rattle.rb_chapter_ring.specs.Chapters.{closing_of}
 use Rattle.rb_chapter_ring.specs.Hands.{hands_of, IsFree}
 use Rattle.rb_chapter_ring.specs.HandRing.{hand_ring, GrantsToHand}
@@ -54,9 +57,13 @@ invariant_of-self-in-Ok c =
     let i = c.self.invariant in
     let done = granted c in
     let low = subst (λ (s : TaggedRing). c.args.worker < s.state.ring.chapter.opening.setup.workers) (sym c.self.view_is) c.requires.worker in
-    let next = c.next_ordinal-ordinal.ensures.ordinal ∙ ap (λ (s : TaggedRing). taken_before (closing_of s.state.ring.chapter) + length (closing_of s.state.ring.chapter).records) (sym c.self.view_is) in
+    let recs = c.records.ensures.records ∙ ap (λ (o : Snapshot). o.records) c.closing-closing.ensures.closing in
+    let consumed = c.numbers-numbers.ensures.consumed ∙ ap (λ (o : Snapshot). o.consumed) c.closing-closing.ensures.closing in
+    let skipped = c.numbers-numbers.ensures.skipped ∙ ap (λ (o : Snapshot). o.skipped) c.closing-closing.ensures.closing in
+    let many : length c.records.result.now ≡ length (closing_of a.chapter).records = sym (length-map c.records.result.now untaken_shown) ∙ ap length recs in
+    let next : c.numbers-numbers.result.consumed + c.numbers-numbers.result.skipped + length c.records.result.now ≡ taken_before (closing_of a.chapter) + length (closing_of a.chapter).records = λ j. consumed j + skipped j + many j in
     let number = subst (HasOrdinal (closing_of q.chapter) c.in-Ok.pos) (sym next) done.number in
-    let state = granted-holds i.parts.earlier (hand_ring (ring_in p) a.hands.items) (hand_ring (ring_in q) c.set_hand.new.book.items) a.ordinals.items i.parts.ring.kept i.hands done.keeps.numbers c.args.worker c.args.hand c.args.n c.in-Ok.pos c.in-Ok.serial c.next_ordinal-ordinal.result low (marked c) number in
+    let state = granted-holds i.parts.earlier (hand_ring (ring_in p) a.hands.items) (hand_ring (ring_in q) c.set_hand.new.book.items) a.ordinals.items i.parts.ring.kept i.hands done.keeps.numbers c.args.worker c.args.hand c.args.n c.in-Ok.pos c.in-Ok.serial (c.numbers-numbers.result.consumed + c.numbers-numbers.result.skipped + length c.records.result.now) low (marked c) number in
     record { parts = done.keeps.parts; hands = subst (IsHandState (hand_ring (ring_in q) c.set_hand.new.book.items)) (sym c.set_ordinal.ensures.set) state }
 
 pub returns-in-Ok-clause-granted : goal.returns-in-Ok-clause-granted

@@ -1,4 +1,4 @@
-use Rattle.std.proofs.Common.{◌≡◌, ◌%◌, ◌<◌, [], length, get_or, set, refl, sym, ap, ◌∙◌, subst, arith}
+use Rattle.std.proofs.Common.{◌≡◌, ◌+◌, ◌%◌, ◌<◌, [], length, get_or, set, refl, sym, ap, ◌∙◌, subst, arith}
 use Rattle.std.proofs.lemmas.List.{length-map}
 use Rattle.rb_history.specs.declared.answers.Taken.TheVariants.{Event, Skipped, BusyFront, Empty}
 use Rattle.rb_history.specs.History.{Shown}
@@ -23,7 +23,7 @@ pub returns-in_default-clause-takes : goal.returns-in_default-clause-takes
 returns-in_default-clause-takes c =
     let a = c.self.inside in
     let i = c.self.invariant.parts in
-    let recs = c.records.ensures.records ∙ ap (λ (o : Snapshot). o.records) c.closing.ensures.closing in
+    let recs = c.records.ensures.records ∙ ap (λ (o : Snapshot). o.records) c.closing-closing.ensures.closing in
     let none : length (closing_of a.chapter).records ≡ 0 = omega (arith, c.in_default.ensures.none, ap length recs, length-map c.records.result.now untaken_shown) in
     (subst (λ (s : TaggedRing). TakesAs s.state.ring s.state.ring Empty) c.self.view_is (none-front i.earlier a.chapter a.sheets.items i.counts i.ring none)).takes
 
@@ -31,7 +31,7 @@ pub returns-in_default-clause-busy_front : goal.returns-in_default-clause-busy_f
 returns-in_default-clause-busy_front c =
     let a = c.self.inside in
     let i = c.self.invariant.parts in
-    let recs = c.records.ensures.records ∙ ap (λ (o : Snapshot). o.records) c.closing.ensures.closing in
+    let recs = c.records.ensures.records ∙ ap (λ (o : Snapshot). o.records) c.closing-closing.ensures.closing in
     let none : length (closing_of a.chapter).records ≡ 0 = omega (arith, c.in_default.ensures.none, ap length recs, length-map c.records.result.now untaken_shown) in
     (subst (λ (s : TaggedRing). TakesAs s.state.ring s.state.ring Empty) c.self.view_is (none-front i.earlier a.chapter a.sheets.items i.counts i.ring none)).busy_front
 
@@ -39,7 +39,7 @@ pub returns-in_default-clause-empty : goal.returns-in_default-clause-empty
 returns-in_default-clause-empty c =
     let a = c.self.inside in
     let i = c.self.invariant.parts in
-    let recs = c.records.ensures.records ∙ ap (λ (o : Snapshot). o.records) c.closing.ensures.closing in
+    let recs = c.records.ensures.records ∙ ap (λ (o : Snapshot). o.records) c.closing-closing.ensures.closing in
     let none : length (closing_of a.chapter).records ≡ 0 = omega (arith, c.in_default.ensures.none, ap length recs, length-map c.records.result.now untaken_shown) in
     (subst (λ (s : TaggedRing). TakesAs s.state.ring s.state.ring Empty) c.self.view_is (none-front i.earlier a.chapter a.sheets.items i.counts i.ring none)).empty
 
@@ -47,7 +47,7 @@ pub returns-in-Busy-clause-takes : goal.returns-in-Busy-clause-takes
 returns-in-Busy-clause-takes c =
     let a = c.self.inside in
     let i = c.self.invariant.parts in
-    let recs = c.records.ensures.records ∙ ap (λ (o : Snapshot). o.records) c.closing.ensures.closing in
+    let recs = c.records.ensures.records ∙ ap (λ (o : Snapshot). o.records) c.closing-closing.ensures.closing in
     let found = c.in-Some.ensures.front in
     let some : 0 < length (closing_of a.chapter).records = omega (arith, found.0, ap length recs, length-map c.records.result.now untaken_shown) in
     let shown : untaken_shown c.in-Some.front ≡ record_in (closing_of a.chapter) 0 = found.1 ∙ ap (λ ss. get_or ss 0 no_record) recs in
@@ -58,7 +58,7 @@ pub returns-in-Busy-clause-busy_front : goal.returns-in-Busy-clause-busy_front
 returns-in-Busy-clause-busy_front c =
     let a = c.self.inside in
     let i = c.self.invariant.parts in
-    let recs = c.records.ensures.records ∙ ap (λ (o : Snapshot). o.records) c.closing.ensures.closing in
+    let recs = c.records.ensures.records ∙ ap (λ (o : Snapshot). o.records) c.closing-closing.ensures.closing in
     let found = c.in-Some.ensures.front in
     let some : 0 < length (closing_of a.chapter).records = omega (arith, found.0, ap length recs, length-map c.records.result.now untaken_shown) in
     let shown : untaken_shown c.in-Some.front ≡ record_in (closing_of a.chapter) 0 = found.1 ∙ ap (λ ss. get_or ss 0 no_record) recs in
@@ -69,7 +69,7 @@ pub returns-in-Busy-clause-empty : goal.returns-in-Busy-clause-empty
 returns-in-Busy-clause-empty c =
     let a = c.self.inside in
     let i = c.self.invariant.parts in
-    let recs = c.records.ensures.records ∙ ap (λ (o : Snapshot). o.records) c.closing.ensures.closing in
+    let recs = c.records.ensures.records ∙ ap (λ (o : Snapshot). o.records) c.closing-closing.ensures.closing in
     let found = c.in-Some.ensures.front in
     let some : 0 < length (closing_of a.chapter).records = omega (arith, found.0, ap length recs, length-map c.records.result.now untaken_shown) in
     let shown : untaken_shown c.in-Some.front ≡ record_in (closing_of a.chapter) 0 = found.1 ∙ ap (λ ss. get_or ss 0 no_record) recs in
@@ -81,13 +81,14 @@ returns-in-Busy-clause-empty c =
 waited : (c : After-log_take) → TakesParts (parts_of c.self.inside) (after_take (parts_of c.self.inside) c.log_take.new.self (set c.self.inside.sheets.items c.slot_in-slot.result c.hand_out-sheet.new.self)) (Event c.in-Some.front.pos c.in-Some.front.worker c.in-Some.front.serial c.hand_out-sheet.result)
 waited c =
     let a = c.self.inside in
-    let recs = c.records.ensures.records ∙ ap (λ (o : Snapshot). o.records) c.closing.ensures.closing in
+    let recs = c.records.ensures.records ∙ ap (λ (o : Snapshot). o.records) c.closing-closing.ensures.closing in
     let found = c.in-Some.ensures.front in
     let some : 0 < length (closing_of a.chapter).records = omega (arith, found.0, ap length recs, length-map c.records.result.now untaken_shown) in
     let shown : untaken_shown c.in-Some.front ≡ record_in (closing_of a.chapter) 0 = found.1 ∙ ap (λ ss. get_or ss 0 no_record) recs in
-    let taken : c.taken.result ≡ taken_before (closing_of a.chapter) = c.taken.ensures.taken ∙ ap (λ (s : TaggedRing). taken_before (closing_of s.state.ring.chapter)) (sym c.self.view_is) in
+    let consumed = c.numbers-numbers.ensures.consumed ∙ ap (λ (o : Snapshot). o.consumed) c.closing-closing.ensures.closing in
+    let skipped = c.numbers-numbers.ensures.skipped ∙ ap (λ (o : Snapshot). o.skipped) c.closing-closing.ensures.closing in
     let many = c.len.ensures ∙ a.sheets.ok.0 in
-    let slot : c.slot_in-slot.result ≡ taken_before (closing_of a.chapter) % length a.sheets.items = c.slot_in-slot.ensures.value ∙ (λ j. taken j % many j) in
+    let slot : c.slot_in-slot.result ≡ taken_before (closing_of a.chapter) % length a.sheets.items = c.slot_in-slot.ensures.value ∙ (λ j. (consumed j + skipped j) % many j) in
     let low : c.slot_in-slot.result < length a.sheets.items = omega (arith, c.slot_in-slot.ensures.within, many) in
     let bytes : c.hand_out-sheet.result ≡ get_or a.sheets.items c.slot_in-slot.result [] = c.hand_out-sheet.ensures.value ∙ c.index_mut.ensures.value ∙ get_or-default a.sheets.items c.slot_in-slot.result c.index_mut.result.now [] low in
     takes-waiting (parts_of a) c.self.invariant.parts some (untaken_shown c.in-Some.front) shown c.log_take.new.self c.log_take.ensures.logged (ap status_shown c.in-Waiting.is) c.slot_in-slot.result slot c.hand_out-sheet.result c.hand_out-sheet.new.self bytes
@@ -121,7 +122,7 @@ returns-in-Waiting-clause-empty c =
 skipped : (c : After-log_take-in-Discarded) → TakesParts (parts_of c.self.inside) (after_take (parts_of c.self.inside) c.log_take-in-Discarded.new.self c.self.inside.sheets.items) (Skipped c.in-Some.front.pos c.in-Some.front.len)
 skipped c =
     let a = c.self.inside in
-    let recs = c.records.ensures.records ∙ ap (λ (o : Snapshot). o.records) c.closing.ensures.closing in
+    let recs = c.records.ensures.records ∙ ap (λ (o : Snapshot). o.records) c.closing-closing.ensures.closing in
     let found = c.in-Some.ensures.front in
     let some : 0 < length (closing_of a.chapter).records = omega (arith, found.0, ap length recs, length-map c.records.result.now untaken_shown) in
     let shown : untaken_shown c.in-Some.front ≡ record_in (closing_of a.chapter) 0 = found.1 ∙ ap (λ ss. get_or ss 0 no_record) recs in

@@ -1,7 +1,6 @@
 use Rattle.std.proofs.Common.{◌≡◌, ◌∙◌, Some, sym, ap, subst, set, IfOk}
 use Rattle.std.proofs.lemmas.List.{length-set}
 use Rattle.crossbeam_queue.specs.Passes.{view}
-use Rattle.rb_chapter_ring.specs.Hands.{out_record}
 use Rattle.rb_ledger.specs.Roles.Role.{Worker}
 use Rattle.rb_ledger.specs.Seats.{WorkerSeat, Ties}
 use Rattle.rb_ledger.specs.LockedCalls.{LockedCall}
@@ -31,8 +30,8 @@ invariant_of-seat g c =
       e.same.2 ∙ i.0,
       record { idle = e.idle; book = book-in _ _ _ _ e.call; ties = subst (λ t. Ties c.seat.inside.worker t (seen_with (view c.reserve_with-answer.new.pass))) (sym c.after_reserve-seat-inside.ensures.counted) ties },
       keeps-hands _ _ _ _ _ i.2
-          (e.hands ∙ ap (hands_reserved (hands_by (view c.seat.inside.pass)) hand c.args.n) c.in-Ok.is ∙ (λ k. set (i.2.shows k) hand (Some (out_record (sym c.pos.ensures.pos k) (sym c.serial.ensures.serial k) c.args.n))))
-          (length-set c.seat.inside.hands hand (Some (out_record c.pos.result c.serial.result c.args.n)) ∙ i.2.four)
+          (e.hands ∙ ap (hands_reserved (hands_by (view c.seat.inside.pass)) hand c.args.n) c.in-Ok.is ∙ (λ k. set (i.2.shows k) hand (Some (sym c.out_record.ensures.record k))))
+          (length-set c.seat.inside.hands hand (Some c.out_record.result) ∙ i.2.four)
           e.holds,
     )
 

@@ -1,4 +1,4 @@
-use Rattle.std.proofs.Common.{◌∙◌, None, sym, ap, subst, set}
+use Rattle.std.proofs.Common.{◌∙◌, None, refl, sym, subst, set}
 use Rattle.std.proofs.lemmas.List.{length-set}
 use Rattle.crossbeam_queue.specs.Passes.{view}
 use Rattle.rb_ledger.specs.Roles.Role.{Worker}
@@ -21,10 +21,10 @@ pub invariant_of-seat : goal.invariant_of-seat
 invariant_of-seat g c =
     let e = c.settle_with-notice.ensures in
     let i = c.seat.invariant in
-    let ties = end-tied c.seat.inside.worker c.seat.inside.tally _ _ i.1.ties c.args.end c.args.reservation.granted c.args.flags c.settle_with-notice.result ((c.is_held_by.ensures.exact.0 c.if-not-is_held_by.false).worker_is ∙ ap (λ (s : WorkerSeat). s.worker) (sym c.seat.view_is)) (in-one-chapter _ _ _ _ _ _ e.call) in (
+    let ties = end-tied c.seat.inside.worker c.seat.inside.tally _ _ i.1.ties c.args.end c.args.reservation.granted c.args.flags c.settle_with-notice.result (c.in-Some.ensures.exact.0 refl).1 (in-one-chapter _ _ _ _ _ _ e.call) in (
       e.same.2 ∙ i.0,
       record { idle = e.idle; book = book-in _ _ _ _ e.call; ties = subst (λ t. Ties c.seat.inside.worker t (seen_with (view c.settle_with-notice.new.pass))) (sym c.after_end-seat-inside.ensures.counted) ties },
-      keeps-hands _ _ _ _ _ i.2 (e.hands ∙ (λ k. set (i.2.shows k) (sym c.hand-hand.ensures.hand k) None)) (length-set c.seat.inside.hands c.hand-hand.result None ∙ i.2.four) e.holds,
+      keeps-hands _ _ _ _ _ i.2 (e.hands ∙ (λ k. set (i.2.shows k) (sym c.in-Some.ensures.hand k) None)) (length-set c.seat.inside.hands c.in-Some.hand None ∙ i.2.four) e.holds,
     )
 
 pub returns-clause-call : goal.returns-clause-call

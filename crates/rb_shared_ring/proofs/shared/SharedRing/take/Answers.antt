@@ -17,7 +17,7 @@ invariant_of-seat g c =
     let n = take-counts seat.consumed seat.skipped seat.position _ _ i.2.ties i.2.spaced _ _ c.take_with-answer.result e.call in (
       e.same.2 ∙ i.0,
       keeps-after _ _ _ _ _ _ i.1 e.idle (book-in _ _ _ _ e.call) n.setup_same e.room seat.chapters (i.1.chapters_are ∙ ap length (sym e.chapters)),
-      counts-after _ _ _ _ _ _ _ _ _ _ _ n c.events.ensures.events c.skips.ensures.skips c.span_taken.ensures.span,
+      counts-after _ _ _ _ _ _ _ _ _ _ _ n c.moves_by-moves.ensures.events c.moves_by-moves.ensures.skips c.moves_by-moves.ensures.span,
     )
 
 pub overflow_add-seat-3 : goal.overflow_add-seat-3
@@ -25,7 +25,7 @@ overflow_add-seat-3 g c =
     let i = c.seat.invariant in
     let seat = c.seat.inside in
     let n = take-counts seat.consumed seat.skipped seat.position _ _ i.2.ties i.2.spaced _ _ c.take_with-answer.result c.take_with-answer.ensures.call in
-    omega (arith, n.position_low, c.span_taken.ensures.span)
+    omega (arith, n.position_low, c.moves_by-moves.ensures.span)
 
 pub returns-clause-place : goal.returns-clause-place
 returns-clause-place g c =
