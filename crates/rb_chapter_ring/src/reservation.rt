@@ -80,7 +80,7 @@ impl Reservation {
     }
 
     #[inline(always)]
-    /// Returns what the hand of a record of `len` bytes holds, with the reservation's position and serial.
+    /// Returns what a worker's hand holds for the record if its length is `len` bytes: its position, serial and length.
     pub fn out_record(&self, len: u32) -> OutRecord
         ensures record { result ≡ out_record self.now.granted.pos self.now.granted.serial len }
     {
