@@ -31,9 +31,8 @@ def test_calls_that_every_record_makes_are_counted() -> None:
     """Not those of a drop, those that a run makes three times, and those of a thread's own."""
     found = calls.report(calls.of_a_record(of(10), of(30), 20))
     assert found == [
-        "functions 3",
-        "calls 3",
-        "from another crate 2",
-        "    rb_jobs::helpers::reserve",
-        "    rb_lend::sheet::len",
+        "calls 3, of 2 functions",
+        "from another crate 3, of 2 functions",
+        "    rb_jobs::helpers::reserve 1",
+        "    rb_lend::sheet::len 2",
     ]

@@ -3,10 +3,11 @@
 It builds rbhost without proof, optimization and inlining, and runs it under callgrind (Debian's package valgrind) with
 1,000 and with 3,000 jobs of one worker, each of which reserves and submits a record. A call counts if at least every
 second further record makes it, and if it is made below `serve_reserve` or `serve_submit` of rb_interp or below what
-the consumer does for a record. Calls that a whole batch makes once do not count, nor do drops.
+the consumer does for a record. Of what a function calls, it counts the share that the record's own calls of that
+function have among all. Calls that a whole batch makes once do not count, nor do drops.
 
-Prints how many functions of the repository are called, how many calls of them a record makes, and which of them are
-called from another crate. Calls through the standard library count as the caller's.
+Prints how many calls of the repository's functions a record makes, of how many functions, and which of them are made
+from another crate. Calls through the standard library count as the caller's.
 """
 import argparse
 import collections
@@ -25,6 +26,8 @@ from heskavo.repository import ROOT
 Calls = Mapping[tuple[str, str], float]
 
 FEW, MANY = 1_000, 3_000
+# No call on the way of a record has as many others above it.
+DEEPEST = 100
 # Where the way of a record begins: its two helper calls, and what the consumer does for it.
 ROOTS = (
     "rb_interp::program_run::serve_reserve",
@@ -75,15 +78,29 @@ def plain(function: str) -> str:
     return re.sub(r"::<.*$", "", function)
 
 
-def below(calls: Calls, roots: Iterable[str]) -> set[str]:
-    """Returns these functions and those that they call."""
-    found, waiting = set(), [name for call in calls for name in call if plain(name) in roots]
-    while waiting:
-        name = waiting.pop()
-        if name not in found:
-            found.add(name)
-            waiting += [callee for caller, callee in calls if caller == name]
-    return found
+def share(calls: Calls, roots: Iterable[str]) -> Calls:
+    """Returns the calls made below these functions: of each function's calls the share that such calls of it have."""
+    total: collections.Counter[str] = collections.Counter()
+    made: dict[str, list[tuple[str, float]]] = collections.defaultdict(list)
+    for (caller, callee), count in calls.items():
+        total[callee] += count
+        made[caller].append((callee, count))
+    begun = {name: total[name] or 1 for call in calls for name in call if plain(name) in roots}
+    times: dict[str, float] = {}
+    found: dict[tuple[str, str], float] = {}
+    for _ in range(DEEPEST):
+        found = {
+            (caller, callee): count * times.get(caller, 0) / (total[caller] or 1)
+            for caller in {**begun, **times}
+            for callee, count in made[caller]
+        }
+        reached: collections.Counter[str] = collections.Counter()
+        for (_, callee), count in found.items():
+            reached[callee] += count
+        if {**reached, **begun} == times:
+            return {call: count for call, count in found.items() if call[1] not in begun}
+        times = {**reached, **begun}
+    raise Failure(1, "functions on the way of a record call each other")
 
 
 def callers(calls: Calls, function: str) -> set[str]:
@@ -102,16 +119,24 @@ def callers(calls: Calls, function: str) -> set[str]:
     return found
 
 
+def is_crossing(calls: Calls, caller: str, callee: str) -> bool:
+    """Returns whether the call is made from another crate."""
+    homes = {crate(caller)} if crate(caller) else callers(calls, caller)
+    return bool(homes - {crate(callee)})
+
+
 def report(calls: Calls) -> list[str]:
     """Returns the lines that are printed."""
-    way = below(calls, ROOTS)
-    inside = {call: count for call, count in calls.items() if call[0] in way}
-    crossings = {plain(name) for name in way if crate(name) and callers(inside, name) - {crate(name)}}
+    way = {call: count for call, count in share(calls, ROOTS).items() if crate(call[1])}
+    every = share(calls, ROOTS)
+    crossings: collections.Counter[str] = collections.Counter()
+    for (caller, callee), count in way.items():
+        if is_crossing(every, caller, callee):
+            crossings[plain(callee)] += count
     return [
-        f"functions {len({plain(name) for name in way if crate(name)})}",
-        f"calls {sum(count for (_, name), count in inside.items() if crate(name)):.0f}",
-        f"from another crate {len(crossings)}",
-        *(f"    {name}" for name in sorted(crossings)),
+        f"calls {sum(way.values()):.0f}, of {len({plain(callee) for _, callee in way})} functions",
+        f"from another crate {sum(crossings.values()):.0f}, of {len(crossings)} functions",
+        *(f"    {name} {count:.0f}" for name, count in sorted(crossings.items())),
     ]
 
 
