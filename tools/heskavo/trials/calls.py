@@ -1,10 +1,11 @@
-"""Counts the calls that a record of 8 bytes takes, from its reservation to the sink.
+"""Counts the calls that a record of 8 bytes takes, from its reservation to a tape.
 
 It builds rbhost without proof, optimization and inlining, and runs it under callgrind (Debian's package valgrind) with
-1,000 and with 3,000 jobs of one worker, each of which reserves and submits a record. A call counts if at least every
-second further record makes it, and if it is made below `serve_reserve` or `serve_submit` of rb_interp or below what
-the consumer does for a record. Of what a function calls, it counts the share that the record's own calls of that
-function have among all. Calls that a whole batch makes once do not count, nor do drops.
+1,000 and with 3,000 jobs of one worker, each of which reserves, writes and submits a record, and with a tape. A call
+counts if at least every second further record makes it, and if it is made below the helper calls or the store of
+rb_interp or below what the consumer and the tape's sink do for a record. callgrind adds up all callers of a function,
+so the function's own calls count in the proportion in which it was called on that way. Calls that a whole batch makes
+once do not count, nor do drops.
 
 Prints how many calls of the repository's functions a record makes, of how many functions, and which of them are made
 from another crate. Calls through the standard library count as the caller's.
@@ -26,16 +27,18 @@ from heskavo.repository import ROOT
 Calls = Mapping[tuple[str, str], float]
 
 FEW, MANY = 1_000, 3_000
-# No call on the way of a record has as many others above it.
+# Deeper than any chain of calls on the way of a record.
 DEEPEST = 100
-# Where the way of a record begins: its two helper calls, and what the consumer does for it.
+# Where the way of a record begins: its helper calls and its store, and what the consumer and the sink do for it.
 ROOTS = (
     "rb_interp::program_run::serve_reserve",
+    "rb_interp::cpu::Cpu::store_record_immediate",
     "rb_interp::program_run::serve_submit",
     "rb_chapter_ring::ring::RingState::take_many",
     "rb_shared_ring::takes::moves_of",
     "rb_consumer::batch::Batch::has_longer",
     "rb_tape::items::ItemsIterator::next",
+    "rb_run_commands::tape_sink::TapeSinkSink::record",
 )
 
 
@@ -143,7 +146,7 @@ def report(calls: Calls) -> list[str]:
 def profile(program: pathlib.Path, jobs: int, place: pathlib.Path) -> Calls:
     """Runs the jobs under callgrind, and returns their calls."""
     words = ["valgrind", "--tool=callgrind", f"--callgrind-out-file={place}", program]
-    options = ["run", "--workers", "1", "--jobs", str(jobs), "--size", "65536"]
+    options = ["run", "--workers", "1", "--jobs", str(jobs), "--size", "65536", "--tape", f"{place}.tape"]
     with open(ROOT / "examples" / "submit_42.hex", "rb") as given:
         run = subprocess.run([*words, *options], stdin=given, capture_output=True, check=False)
     if run.returncode:
